@@ -1,0 +1,9 @@
+pub mod Causes
+pub mod Held
+pub mod Memory
+pub mod Moves
+pub mod Numbers
+pub mod Outside
+pub mod Padded
+pub mod Ranges
+pub mod Text

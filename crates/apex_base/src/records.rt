@@ -1,0 +1,161 @@
+//! Modules, sessions and their parts, and what becomes of them. Plain data: which values go together is
+//! decided by the crates above.
+ghost use Rattle.std.specs.Prelude.{◌≡◌};
+ghost use Rattle.apex_base.specs.Moves.{state_number};
+
+use crate::listed::Listed;
+use crate::{Millis, Name, Print, SessionId, Version};
+
+/// A session's state (AOSP's `apexd_session` and `StagingManager`; ABORTED is ours).
+#[derive(Clone, Copy, Debug, PartialEq, Eq)]
+pub enum State {
+    Verified,
+    Staged,
+    Activated,
+    ActivationFailed,
+    Success,
+    RevertInProgress,
+    Reverted,
+    Aborted,
+}
+
+impl State {
+    /// The state's number on a device.
+    pub fn number(self) -> u8
+        ensures { result ≡ state_number self }
+    {
+        match self {
+            State::Verified => 1,
+            State::Staged => 2,
+            State::Activated => 3,
+            State::ActivationFailed => 4,
+            State::Success => 5,
+            State::RevertInProgress => 6,
+            State::Reverted => 7,
+            State::Aborted => 8,
+        }
+    }
+}
+
+/// A rollback's state (AOSP's `RollbackManagerServiceImpl`).
+#[derive(Clone, Copy, Debug, PartialEq, Eq)]
+pub enum RollbackState {
+    Enabling,
+    Available,
+    Committed,
+    Deleted,
+}
+
+/// What a session is for.
+#[derive(Clone, Copy, PartialEq, Eq)]
+pub enum Kind {
+    Plain,
+    WithRollback,
+    RollbackOf(SessionId),
+}
+
+/// Where a module stands: on the data partition, or preinstalled.
+#[derive(Clone, Copy, Debug, PartialEq, Eq)]
+pub enum Place {
+    Data,
+    Pre,
+}
+
+/// What a part of a session makes of its name: a module that a session submitted, or the preinstalled one.
+#[derive(Clone, Copy, PartialEq, Eq)]
+pub enum Target {
+    Preinstalled,
+    Module {
+        session: SessionId,
+        part: u32,
+        version: Version,
+    },
+}
+
+/// Why a part doesn't work, the first case that holds.
+#[derive(Clone, Copy, Debug, PartialEq, Eq)]
+pub enum Case {
+    NotInImage,
+    BelowPreinstalled,
+    KeyDiffers,
+    Unsound,
+    NoMount,
+}
+
+/// Why a session ended in ACTIVATION_FAILED or REVERTED.
+#[derive(Clone, Copy)]
+pub enum Cause {
+    Reverted,
+    OtherBuild,
+    Superseded(SessionId),
+    Part { name: Name, case: Case },
+}
+
+/// One name of a session. `version` is that of the target, None for the preinstalled module.
+#[derive(Clone, Copy)]
+pub struct Part {
+    pub name: Name,
+    pub version: Option<Version>,
+    pub target: Target,
+}
+
+/// The ids of a session's children, seen as a list.
+pub type ChildList = Listed<SessionId>;
+
+/// Parts, seen as a list.
+pub type PartList = Listed<Part>;
+
+/// Bytes of any content, seen as a list.
+pub type Bytes = Listed<u8>;
+
+/// A module: its name and its version.
+#[derive(Clone, Copy)]
+pub struct Module {
+    pub name: Name,
+    pub version: Version,
+}
+
+/// Modules, seen as a list.
+pub type ModuleList = Listed<Module>;
+
+/// What a boot chose for a name: a version and its place, or None where the name is missing.
+#[derive(Clone, Copy)]
+pub struct Pick {
+    pub name: Name,
+    pub chosen: Option<(Version, Place)>,
+}
+
+/// A session. `activation` is the boot that activated it, 0 for none; `moment` is when its rollback became
+/// AVAILABLE, 0 before.
+#[derive(Drop)]
+pub struct Record {
+    pub id: SessionId,
+    pub children: ChildList,
+    pub kind: Kind,
+    pub parts: PartList,
+    pub print: Print,
+    pub state: State,
+    pub cause: Option<Cause>,
+    pub activation: u32,
+    pub rollback: Option<RollbackState>,
+    pub moment: Millis,
+}
+
+/// How much the user would notice if an observer acted.
+#[derive(Clone, Copy, Debug, PartialEq, Eq, PartialOrd, Ord)]
+pub enum Level {
+    None,
+    Low,
+    Medium,
+    High,
+}
+
+/// Why a name's health is reported (AOSP's `PackageWatchdog`).
+#[derive(Clone, Copy, Debug, PartialEq, Eq)]
+pub enum Reason {
+    Unknown,
+    NativeCrash,
+    HealthCheck,
+    AppCrash,
+    AppNotResponding,
+}

@@ -1,0 +1,65 @@
+//! Why a call is refused, with the values that a person would ask for next.
+use crate::{Name, RollbackState, SessionId, State, Version};
+
+/// The causes, in the order in which a call's checks name them. A refusal changes nothing.
+#[derive(Clone, Copy)]
+pub enum Refusal {
+    IdRange {
+        id: SessionId,
+    },
+    IdTaken {
+        id: SessionId,
+    },
+    Parts {
+        count: u32,
+    },
+    TwiceNamed {
+        name: Name,
+    },
+    NotPreinstalled {
+        name: Name,
+    },
+    KeyDiffers {
+        name: Name,
+    },
+    Overlap {
+        name: Name,
+        id: SessionId,
+    },
+    Downgrade {
+        name: Name,
+        active: Version,
+        given: Version,
+    },
+    SessionsFull {
+        units: u32,
+    },
+    StoreFull {
+        weight: u64,
+    },
+    NoSession {
+        id: SessionId,
+    },
+    BadState {
+        state: State,
+    },
+    NothingToRevert,
+    NoRollback {
+        id: SessionId,
+    },
+    NotAvailable {
+        state: RollbackState,
+    },
+    UnknownModule {
+        name: Name,
+    },
+    DataFull {
+        weight: u64,
+    },
+    NoKey {
+        key: Name,
+    },
+    NoObserver {
+        name: Name,
+    },
+}

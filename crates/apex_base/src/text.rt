@@ -1,0 +1,212 @@
+//! Names and fingerprints. Their bytes stand in the value, so that a copy takes no memory.
+ghost use Rattle.std.specs.Prelude.{◌≡◌, ◌≤◌, length, IsTrue};
+ghost use Rattle.std.specs.List.{list_all};
+ghost use Rattle.std.specs.Ordering.{nat_cmp};
+ghost use Rattle.std.specs.Str.{bytes_eq};
+ghost use Rattle.std.specs.Cmp.Lexicographic.{slice_cmp};
+ghost use Rattle.apex_base.specs.Text.{is_name, is_name_byte, is_print, is_print_byte, name_of, print_of};
+
+use std::cmp::Ordering;
+use std::marker::Model;
+
+const CAPACITY: usize = 64;
+
+/// At most 64 bytes, with zeros behind them.
+#[derive(Clone, Copy)]
+struct ShortText {
+    bytes: [u8; 64],
+    len: u8,
+}
+
+impl Model for ShortText {
+    ghost use Rattle.std.specs.Prelude.{List, ℕ, take};
+
+    ghost Value = { List ℕ };
+
+    ghost use Rattle.apex_base.specs.Padded.{IsPadded, padded, padded-take};
+
+    ghost view = { λ text. take text.len text.bytes };
+
+    ghost invariant = { IsPadded };
+
+    ghost inverse = { padded };
+
+    ghost inverse_ok = { padded-take };
+}
+
+impl ShortText {
+    fn of(text: &[u8]) -> Self
+        requires { length text.now ≤ 64 }
+        ensures { result ≡ text.now }
+    {
+        let mut bytes = [0; 64];
+        bytes[..text.len()].copy_from_slice(text);
+        ShortText {
+            bytes,
+            len: text.len() as u8,
+        }
+    }
+
+    fn as_bytes(&self) -> &[u8]
+        ensures { result.now ≡ self.now }
+    {
+        &self.bytes[..usize::from(self.len)]
+    }
+}
+
+fn is_name_byte(b: u8) -> bool
+    ensures { result ≡ is_name_byte b }
+{
+    b.is_ascii_uppercase() || b.is_ascii_lowercase() || b.is_ascii_digit() || b == b'_' || b == b'.'
+}
+
+fn is_print_byte(b: u8) -> bool
+    ensures { result ≡ is_print_byte b }
+{
+    b.is_ascii_graphic()
+}
+
+fn all_name_bytes(bytes: &[u8]) -> bool
+    ensures { result ≡ list_all is_name_byte bytes.now }
+{
+    bytes.iter().all(|b| is_name_byte(*b))
+}
+
+fn all_print_bytes(bytes: &[u8]) -> bool
+    ensures { result ≡ list_all is_print_byte bytes.now }
+{
+    bytes.iter().all(|b| is_print_byte(*b))
+}
+
+#[tactic(auto, unfolding(crate::specs::Text::is_short_text))]
+fn is_name(bytes: &[u8]) -> bool
+    ensures value { result ≡ is_name bytes.now }
+    ensures short { IsTrue result → length bytes.now ≤ 64 }
+{
+    if bytes.is_empty() {
+        return false;
+    }
+    if bytes.len() > CAPACITY {
+        return false;
+    }
+    all_name_bytes(bytes)
+}
+
+#[tactic(auto, unfolding(crate::specs::Text::is_short_text))]
+fn is_print(bytes: &[u8]) -> bool
+    ensures value { result ≡ is_print bytes.now }
+    ensures short { IsTrue result → length bytes.now ≤ 64 }
+{
+    if bytes.is_empty() {
+        return false;
+    }
+    if bytes.len() > CAPACITY {
+        return false;
+    }
+    all_print_bytes(bytes)
+}
+
+/// A name of a module, an observer, a data key or a label: 1 to 64 bytes of `A-Z a-z 0-9 _ .`.
+#[derive(Clone, Copy)]
+pub struct Name {
+    text: ShortText,
+}
+
+impl Model for Name {
+    ghost use Rattle.std.specs.Prelude.{List, ℕ, IsTrue};
+    ghost use Rattle.apex_base.specs.Text.{is_name};
+
+    ghost Value = { List ℕ };
+
+    ghost view = { λ name. name.text };
+
+    ghost invariant = { λ name. IsTrue (is_name name.text) };
+
+    ghost inverse = { λ bytes. record { text = bytes } };
+}
+
+impl Name {
+    /// The name that the bytes are; None exactly where they are none.
+    pub fn read(bytes: &[u8]) -> Option<Self>
+        ensures { result ≡ name_of bytes.now }
+    {
+        if is_name(bytes) {
+            Some(Name {
+                text: ShortText::of(bytes),
+            })
+        } else {
+            None
+        }
+    }
+
+    /// The bytes.
+    pub fn as_bytes(&self) -> &[u8]
+        ensures bytes { result.now ≡ self.now }
+        ensures name { IsTrue (is_name self.now) }
+    {
+        self.text.as_bytes()
+    }
+
+    /// Whether the two are one name.
+    pub fn is_same(&self, other: &Name) -> bool
+        ensures { result ≡ bytes_eq self.now other.now }
+    {
+        self.as_bytes() == other.as_bytes()
+    }
+
+    /// The order of names: by their bytes.
+    pub fn order(&self, other: &Name) -> Ordering
+        ensures { result ≡ slice_cmp nat_cmp self.now other.now }
+    {
+        self.as_bytes().cmp(other.as_bytes())
+    }
+}
+
+/// A build's fingerprint: 1 to 64 bytes of 0x21 to 0x7e.
+#[derive(Clone, Copy)]
+pub struct Print {
+    text: ShortText,
+}
+
+impl Model for Print {
+    ghost use Rattle.std.specs.Prelude.{List, ℕ, IsTrue};
+    ghost use Rattle.apex_base.specs.Text.{is_print};
+
+    ghost Value = { List ℕ };
+
+    ghost view = { λ print. print.text };
+
+    ghost invariant = { λ print. IsTrue (is_print print.text) };
+
+    ghost inverse = { λ bytes. record { text = bytes } };
+}
+
+impl Print {
+    /// The fingerprint that the bytes are; None exactly where they are none.
+    pub fn read(bytes: &[u8]) -> Option<Self>
+        ensures { result ≡ print_of bytes.now }
+    {
+        if is_print(bytes) {
+            Some(Print {
+                text: ShortText::of(bytes),
+            })
+        } else {
+            None
+        }
+    }
+
+    /// The bytes.
+    pub fn as_bytes(&self) -> &[u8]
+        ensures bytes { result.now ≡ self.now }
+        ensures print { IsTrue (is_print self.now) }
+    {
+        self.text.as_bytes()
+    }
+
+    /// Whether the two are of one build.
+    pub fn is_same(&self, other: &Print) -> bool
+        ensures { result ≡ bytes_eq self.now other.now }
+    {
+        self.as_bytes() == other.as_bytes()
+    }
+}

@@ -1,0 +1,18 @@
+//! The world of the module manager: its calls, its boots, its scripts, its turns and its text. The types stand
+//! here; what they mean stands in `specs/`, one file a subject.
+#![tactic(auto)]
+
+mod calls;
+mod script;
+mod turns;
+mod world;
+
+pub use calls::{
+    ActiveSet, BootOrder, BootReply, Call, ChangeList, Changed, IdList, Image, NameList, Observer,
+    ObserverKind, ObserverList, Reply,
+};
+pub use script::{
+    BootList, CallList, Cut, Lane, LaneList, MountList, Script, ScriptBoot, Segment, SegmentList,
+};
+pub use turns::{Fate, TurnRow, Turns};
+pub use world::Submission;

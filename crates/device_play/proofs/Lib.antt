@@ -1,0 +1,10 @@
+pub mod Counts
+pub mod InPlace
+pub mod Parts
+pub mod Plans
+pub mod PlayedLemmas
+pub mod Puts
+pub mod Runs
+pub mod Search
+pub mod Sources
+pub mod Statuses

@@ -1,0 +1,7 @@
+pub mod Headline
+pub mod Plain
+pub mod Played
+pub mod Put
+pub mod Run
+pub mod Source
+pub mod Stages

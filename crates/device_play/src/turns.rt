@@ -1,0 +1,223 @@
+//! Plays the turns of a script, the lanes of a segment one behind the other.
+use crate::mounts::AllBut;
+use crate::plain::PlainWorld;
+use crate::put::{PutFailed, put_boot, put_end, put_reply};
+use apex_base::{Scale, Sink};
+use apex_world::{Call, Fate, Lane, Script, ScriptBoot, Segment, TurnRow};
+use std::alloc::Global;
+
+/// A run so far: its world, its turns, and the line that is being put.
+#[derive(Drop)]
+pub struct Run {
+    pub world: PlainWorld,
+    pub turns: Vec<TurnRow>,
+    pub line: Vec<u8>,
+}
+
+/// How many calls each lane has had since the boot, by its number.
+const LANES: usize = 9;
+
+impl Run {
+    ghost use Rattle.std.specs.Prelude.{◌≡◌, ◌<◌, ◌+◌, ◌^◌, ◌∷◌, [], IsOk, length, get_or};
+    ghost use Rattle.std.specs.List.{All};
+    ghost use Rattle.apex_world.specs.Playable.{IsBuilt, IsPlayable, IsPlayableBoot, IsPlayableLane};
+    ghost use Rattle.apex_world.specs.World.{empty_world};
+    ghost use Rattle.device_play.specs.Plain.{world_of};
+    ghost use Rattle.device_play.specs.Played.{HasPlayed};
+    ghost use Rattle.device_play.specs.Put.{HasSinkCause};
+    ghost use Rattle.device_play.specs.Run.{planned_boot, planned_call, call_plan, block_plan, segment_plan, boot_plan, boots_plan, Ran};
+    ghost use Rattle.device_play.specs.Stages.{stage_of, HasCounts, blocks_before};
+
+    /// A run of which nothing is played yet.
+    pub fn start(alloc: Global, scale: Scale) -> Self
+        ensures world { world_of result.world ≡ empty_world scale }
+        ensures boots { result.world.boots ≡ 0 }
+        ensures turns { result.turns.items ≡ [] }
+    {
+        Run {
+            world: PlainWorld::new(alloc, scale),
+            turns: Vec::new(alloc),
+            line: Vec::new(alloc),
+        }
+    }
+
+    /// A call: its turn joins the list, and then its line is put.
+    fn play_call<K: Sink>(
+        &mut self,
+        alloc: Global,
+        sink: &mut K,
+        boot: u32,
+        lane: u32,
+        step: u32,
+        call: &Call,
+    ) -> Result<(), PutFailed>
+        requires { IsBuilt call.now }
+        ensures ran { Ran result (planned_call boot lane step call.now ∷ []) (stage_of self.old (K.held sink.old)) (stage_of self.new (K.held sink.new)) }
+        ensures faults { HasSinkCause result (K.faults sink.old) (K.faults sink.new) }
+        ensures boots { self.new.world.boots ≡ self.old.world.boots }
+    {
+        let turn = TurnRow {
+            boot,
+            lane,
+            step,
+            fate: Fate::Answered,
+        };
+        let reply = self.world.act(alloc, call)?;
+        self.turns.push(turn)?;
+        put_reply(sink, &mut self.line, alloc, &turn, &reply)
+    }
+
+    /// A boot: its turn joins the list, and then its lines are put.
+    fn play_boot<K: Sink>(
+        &mut self,
+        alloc: Global,
+        sink: &mut K,
+        number: u32,
+        boot: &ScriptBoot,
+    ) -> Result<(), PutFailed>
+        requires { self.old.world.boots + 1 < 2 ^ 32 }
+        ensures ran { Ran result (planned_boot number boot.now ∷ []) (stage_of self.old (K.held sink.old)) (stage_of self.new (K.held sink.new)) }
+        ensures faults { HasSinkCause result (K.faults sink.old) (K.faults sink.new) }
+        ensures boots { IsOk result → self.new.world.boots ≡ self.old.world.boots + 1 }
+    {
+        let row = TurnRow {
+            boot: number,
+            lane: 0,
+            step: 0,
+            fate: Fate::Answered,
+        };
+        let mounter = AllBut {
+            modules: boot.mounts.as_slice(),
+        };
+        let reply = self.world.boot(alloc, &boot.order, &mounter)?;
+        self.turns.push(row)?;
+        put_boot(sink, &mut self.line, &row, &reply)
+    }
+
+    /// The calls of a lane block, the first of which is step `behind` + 1 of its lane.
+    fn play_lane<K: Sink>(
+        &mut self,
+        alloc: Global,
+        sink: &mut K,
+        boot: u32,
+        behind: u32,
+        lane: &Lane,
+    ) -> Result<(), PutFailed>
+        requires playable { IsPlayableLane lane.now }
+        requires few { behind + length lane.now.calls < 2 ^ 32 }
+        ensures ran { Ran result (call_plan boot lane.now.number behind lane.now.calls) (stage_of self.old (K.held sink.old)) (stage_of self.new (K.held sink.new)) }
+        ensures faults { HasSinkCause result (K.faults sink.old) (K.faults sink.new) }
+        ensures boots { self.new.world.boots ≡ self.old.world.boots }
+    {
+        let mut step = behind;
+        for call in lane.calls.as_slice() {
+            step += 1;
+            self.play_call(alloc, sink, boot, lane.number, step, call)?;
+        }
+        Ok(())
+    }
+
+    /// The lanes of a segment that stands at a place of a boot.
+    fn play_segment<K: Sink>(
+        &mut self,
+        alloc: Global,
+        sink: &mut K,
+        number: u32,
+        steps: &mut [u32; LANES],
+        boot: &ScriptBoot,
+        at: usize,
+        segment: &Segment,
+    ) -> Result<(), PutFailed>
+        requires playable { IsPlayableBoot (2 ^ 32) boot.now }
+        requires within { at < length boot.now.segments }
+        requires here { segment.now ≡ get_or boot.now.segments at segment.now }
+        requires counts { HasCounts steps.old (blocks_before boot.now at) }
+        ensures ran { Ran result (block_plan number (blocks_before boot.now at) segment.now.lanes) (stage_of self.old (K.held sink.old)) (stage_of self.new (K.held sink.new)) }
+        ensures counts { IsOk result → HasCounts steps.new (blocks_before boot.now (at + 1)) }
+        ensures faults { HasSinkCause result (K.faults sink.old) (K.faults sink.new) }
+        ensures boots { self.new.world.boots ≡ self.old.world.boots }
+    {
+        for lane in segment.lanes.as_slice() {
+            let behind = steps[lane.number as usize];
+            self.play_lane(alloc, sink, number, behind, lane)?;
+            steps[lane.number as usize] = behind + lane.calls.as_slice().len() as u32;
+        }
+        Ok(())
+    }
+
+    /// The segments of a boot.
+    fn play_segments<K: Sink>(
+        &mut self,
+        alloc: Global,
+        sink: &mut K,
+        number: u32,
+        boot: &ScriptBoot,
+    ) -> Result<(), PutFailed>
+        requires { IsPlayableBoot (2 ^ 32) boot.now }
+        ensures ran { Ran result (segment_plan number [] boot.now.segments) (stage_of self.old (K.held sink.old)) (stage_of self.new (K.held sink.new)) }
+        ensures faults { HasSinkCause result (K.faults sink.old) (K.faults sink.new) }
+        ensures boots { self.new.world.boots ≡ self.old.world.boots }
+    {
+        let mut steps = [0; LANES];
+        for (at, segment) in boot.segments.as_slice().iter().enumerate() {
+            self.play_segment(alloc, sink, number, &mut steps, boot, at, segment)?;
+        }
+        Ok(())
+    }
+
+    fn play_boot_and_calls<K: Sink>(
+        &mut self,
+        alloc: Global,
+        sink: &mut K,
+        number: u32,
+        boot: &ScriptBoot,
+    ) -> Result<(), PutFailed>
+        requires playable { IsPlayableBoot (2 ^ 32) boot.now }
+        requires boots { self.old.world.boots + 1 < 2 ^ 32 }
+        ensures ran { Ran result (boot_plan number boot.now) (stage_of self.old (K.held sink.old)) (stage_of self.new (K.held sink.new)) }
+        ensures faults { HasSinkCause result (K.faults sink.old) (K.faults sink.new) }
+        ensures boots { IsOk result → self.new.world.boots ≡ self.old.world.boots + 1 }
+    {
+        self.play_boot(alloc, sink, number, boot)?;
+        self.play_segments(alloc, sink, number, boot)
+    }
+
+    /// All boots of a script, each with its calls.
+    pub fn play_boots<K: Sink>(
+        &mut self,
+        alloc: Global,
+        sink: &mut K,
+        boots: &[ScriptBoot],
+    ) -> Result<(), PutFailed>
+        requires few { length boots.now < 2 ^ 32 }
+        requires playable { All (IsPlayableBoot (2 ^ 32)) boots.now }
+        requires fresh { self.old.world.boots ≡ 0 }
+        ensures ran { Ran result (boots_plan 0 boots.now) (stage_of self.old (K.held sink.old)) (stage_of self.new (K.held sink.new)) }
+        ensures faults { HasSinkCause result (K.faults sink.old) (K.faults sink.new) }
+    {
+        let mut number = 0;
+        for boot in boots {
+            number += 1;
+            self.play_boot_and_calls(alloc, sink, number, boot)?;
+        }
+        Ok(())
+    }
+
+    /// A script from its start to its last line.
+    pub fn play_script<K: Sink>(
+        &mut self,
+        alloc: Global,
+        sink: &mut K,
+        script: &Script,
+    ) -> Result<(), PutFailed>
+        requires playable { IsPlayable script.now }
+        requires world { world_of self.old.world ≡ empty_world script.now.scale }
+        requires boots { self.old.world.boots ≡ 0 }
+        requires turns { self.old.turns.items ≡ [] }
+        ensures played { HasPlayed result script.now (K.held sink.old) (K.held sink.new) self.new.turns.items }
+        ensures faults { HasSinkCause result (K.faults sink.old) (K.faults sink.new) }
+    {
+        self.play_boots(alloc, sink, script.boots.as_slice())?;
+        put_end(sink, &mut self.line, &self.turns)
+    }
+}

@@ -1,0 +1,7 @@
+use Rattle.std.proofs.lemmas.Result.{IfOk-at_ok}
+use Rattle.apex_world.specs.Playable.{IsPlayable}
+use Rattle.device_script.proofs.PlayableScripts.{script_playable}
+use Rattle.device_script.proofs.read.read_script.Goals as goal
+
+pub returns-in-Ok-clause-playable : goal.returns-in-Ok-clause-playable
+returns-in-Ok-clause-playable c = IfOk-at_ok IsPlayable c.in-Ok.ensures (script_playable c.args.bytes.now)

@@ -1,0 +1,59 @@
+-- The words of a line, and what single words say: docs/formats/script.md, "Words".
+use Rattle.std.specs.Prelude.{ℕ, ◌+◌, ◌-◌, ◌*◌, ◌&&◌, ◌==◌, Bool, not, nat_le, nat_lt, List, length, take, drop, filter, fold, codes, Option, Some, None, position, option_and_then, slice_index, if◌then◌else◌}
+use Rattle.std.specs.List.{list_all, slice_split}
+use Rattle.std.specs.Str.{bytes_eq}
+use Rattle.apex_base.specs.declared.numbers.Scale.{Scale}
+use Rattle.apex_base.specs.declared.numbers.Scale.TheVariants.{Small, Standard}
+use Rattle.apex_base.specs.declared.numbers.SessionId.{SessionId}
+use Rattle.apex_base.specs.declared.records.Module.{Module}
+use Rattle.apex_base.specs.Text.{name_of}
+use Rattle.apex_base.specs.Numbers.{version_of, millis_of}
+
+-- the words of a line, parted by spaces
+abbrev pub words_of : List ℕ → List (List ℕ)
+words_of line = filter (λ w. not (length w == 0)) (slice_split (λ b. b == 32) line)
+
+abbrev pub is_digit : ℕ → Bool
+is_digit b = nat_le 48 b && nat_le b 57
+
+-- the number that digits spell
+abbrev pub value_of : List ℕ → ℕ
+value_of digits = fold (λ n d. 10 * n + (d - 48)) 0 digits
+
+-- digits without a leading zero, but 0 itself
+abbrev pub is_number : List ℕ → Bool
+is_number digits = not (length digits == 0) && not (nat_lt 1 (length digits) && (slice_index digits 0 == 48)) && list_all is_digit digits
+
+-- the number that the bytes spell, where it is at most so large
+unfoldable pub number_of : ℕ → List ℕ → Option ℕ
+number_of most digits = if is_number digits && nat_le (value_of digits) most then Some (value_of digits) else None
+
+abbrev pub scale_of : List ℕ → Option Scale
+scale_of word = if bytes_eq word (codes "small") then Some Small else (if bytes_eq word (codes "standard") then Some Standard else None)
+
+-- a session's id
+abbrev pub id_of : List ℕ → Option SessionId
+id_of word = option_and_then (λ n. Some (record { 0 = n })) (number_of 4294967295 word)
+
+abbrev pub time_of : List ℕ → Option ℕ
+time_of word = option_and_then millis_of (number_of 9007199254740991 word)
+
+-- a number of workers, 1 to 64
+abbrev pub workers_of : List ℕ → Option ℕ
+workers_of word = option_and_then (λ n. if nat_le 1 n then Some n else None) (number_of 64 word)
+
+abbrev pub is_plain_kind : List ℕ → Bool
+is_plain_kind word = bytes_eq word (codes "plain")
+
+infixl 10 ◌>>=◌
+abbrev pub ◌>>=◌ : {A B : Type 0} → Option A → (A → Option B) → Option B
+o >>= f = option_and_then f o
+
+-- NAME@VERSION
+unfoldable pub part_of : List ℕ → Option Module
+part_of word = do
+  at ← position (λ b. b == 64) word
+  name ← name_of (take at word)
+  number ← number_of 9223372036854775807 (drop (at + 1) word)
+  version ← version_of number
+  Some (record { name = name; version = version })

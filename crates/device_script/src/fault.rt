@@ -1,0 +1,76 @@
+//! Why bytes are no script.
+use std::alloc::{AllocError, AllocFailed};
+use thiserror::Error;
+
+/// What is wrong with a line, in the order in which the checks are made.
+#[derive(Clone, Copy, Debug, PartialEq, Eq, Error)]
+pub enum LineFault {
+    /// The script has more than 16777216 bytes. It is told of line 0.
+    #[error("too-long")]
+    TooLong,
+    /// A byte outside 0x20 to 0x7e.
+    #[error("bad-byte")]
+    BadByte,
+    /// The first word begins no line.
+    #[error("unknown-word")]
+    UnknownWord,
+    /// A line that this version doesn't read yet.
+    #[error("not-yet")]
+    NotYet,
+    /// The line may not stand here.
+    #[error("bad-place")]
+    BadPlace,
+    /// The number of words isn't that of the line.
+    #[error("words")]
+    Words,
+    /// The word of this number, from 1, is the first that isn't readable or in range.
+    #[error("bad-word {word}")]
+    BadWord { word: u32 },
+    /// The image has a module of that name already.
+    #[error("twice")]
+    Twice,
+    /// The image has as many modules as the scale allows.
+    #[error("full")]
+    Full,
+    /// The script ends too early: it has no `scale` line.
+    #[error("unended")]
+    Unended,
+}
+
+/// Why `read_script` gives no script: the first bad line, counted from 1, and what is wrong with it.
+#[derive(Clone, Copy, Debug, PartialEq, Eq, Error)]
+pub enum ScriptWhy {
+    #[error("script line {line} {why}")]
+    Bad { line: u32, why: LineFault },
+    #[error("no memory")]
+    NoMemory,
+}
+
+/// Why a line didn't enter a draft.
+#[derive(Clone, Copy, Debug, PartialEq, Eq)]
+pub enum LineError {
+    Fault(LineFault),
+    NoMemory,
+}
+
+impl From<LineFault> for LineError {
+    ghost use Rattle.std.specs.Prelude.{◌≡◌};
+    ghost use Rattle.device_script.specs.declared.fault.LineError.TheVariants.{Fault};
+
+    ghost from_gives = { λ fault e. e ≡ Fault fault };
+
+    fn from(fault: LineFault) -> LineError {
+        LineError::Fault(fault)
+    }
+}
+
+impl From<AllocError> for LineError {
+    ghost use Rattle.std.specs.Prelude.{◌≡◌};
+    ghost use Rattle.device_script.specs.declared.fault.LineError.TheVariants.{NoMemory};
+
+    ghost from_gives = { λ _ e. e ≡ NoMemory };
+
+    fn from(_: AllocError) -> LineError {
+        LineError::NoMemory
+    }
+}

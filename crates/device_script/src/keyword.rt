@@ -1,0 +1,145 @@
+//! The first word of a line, which says what the line is.
+ghost use Rattle.std.specs.Prelude.{◌≡◌};
+ghost use Rattle.device_script.specs.Keywords.{is_later_setup, is_later_block, is_later_lane, is_later_call, is_later, keyword_of};
+
+/// What a line is.
+#[derive(Clone, Copy)]
+pub enum Keyword {
+    Scale,
+    Image,
+    Pre,
+    Boot,
+    Submit,
+    Ready,
+    Success,
+    /// A word of the format whose lines aren't read yet.
+    Later,
+}
+
+fn is_later_setup(word: &[u8]) -> bool
+    ensures { result ≡ is_later_setup word.now }
+{
+    if word == b"observer".as_slice() {
+        return true;
+    }
+    if word == b"nomount".as_slice() {
+        return true;
+    }
+    word == b"mount".as_slice()
+}
+
+fn is_later_block(word: &[u8]) -> bool
+    ensures { result ≡ is_later_block word.now }
+{
+    if word == b"module".as_slice() {
+        return true;
+    }
+    if word == b"file".as_slice() {
+        return true;
+    }
+    if word == b"text".as_slice() {
+        return true;
+    }
+    if word == b"remove".as_slice() {
+        return true;
+    }
+    if word == b"seal".as_slice() {
+        return true;
+    }
+    word == b"done".as_slice()
+}
+
+fn is_later_lane(word: &[u8]) -> bool
+    ensures { result ≡ is_later_lane word.now }
+{
+    if word == b"cut".as_slice() {
+        return true;
+    }
+    if word == b"lane".as_slice() {
+        return true;
+    }
+    if word == b"end".as_slice() {
+        return true;
+    }
+    word == b"then".as_slice()
+}
+
+fn is_later_call(word: &[u8]) -> bool
+    ensures { result ≡ is_later_call word.now }
+{
+    if word == b"group".as_slice() {
+        return true;
+    }
+    if word == b"abort".as_slice() {
+        return true;
+    }
+    if word == b"revert".as_slice() {
+        return true;
+    }
+    if word == b"commit".as_slice() {
+        return true;
+    }
+    if word == b"state".as_slice() {
+        return true;
+    }
+    if word == b"put".as_slice() {
+        return true;
+    }
+    if word == b"drop".as_slice() {
+        return true;
+    }
+    if word == b"get".as_slice() {
+        return true;
+    }
+    if word == b"watch".as_slice() {
+        return true;
+    }
+    word == b"report".as_slice()
+}
+
+fn is_later(word: &[u8]) -> bool
+    ensures { result ≡ is_later word.now }
+{
+    if is_later_setup(word) {
+        return true;
+    }
+    if is_later_block(word) {
+        return true;
+    }
+    if is_later_lane(word) {
+        return true;
+    }
+    is_later_call(word)
+}
+
+/// What a line with this first word is; None where no line begins so.
+#[tactic(auto, unfolding(crate::specs::Keywords::keyword_of))]
+pub fn keyword_of(word: &[u8]) -> Option<Keyword>
+    ensures { result ≡ keyword_of word.now }
+{
+    if word == b"scale".as_slice() {
+        return Some(Keyword::Scale);
+    }
+    if word == b"image".as_slice() {
+        return Some(Keyword::Image);
+    }
+    if word == b"pre".as_slice() {
+        return Some(Keyword::Pre);
+    }
+    if word == b"boot".as_slice() {
+        return Some(Keyword::Boot);
+    }
+    if word == b"submit".as_slice() {
+        return Some(Keyword::Submit);
+    }
+    if word == b"ready".as_slice() {
+        return Some(Keyword::Ready);
+    }
+    if word == b"success".as_slice() {
+        return Some(Keyword::Success);
+    }
+    if is_later(word) {
+        return Some(Keyword::Later);
+    }
+    None
+}

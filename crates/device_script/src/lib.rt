@@ -1,0 +1,17 @@
+//! Scripts, read from bytes: `docs/formats/script.md`.
+#![tactic(auto)]
+
+mod draft;
+mod fault;
+mod keyword;
+mod line;
+mod read;
+#[cfg(test)]
+mod tests;
+mod words;
+
+pub use apex_world::{
+    BootList, CallList, Cut, Lane, LaneList, MountList, Script, ScriptBoot, Segment, SegmentList,
+};
+pub use fault::{LineFault, ScriptWhy};
+pub use read::read_script;

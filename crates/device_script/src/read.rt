@@ -1,0 +1,153 @@
+//! The script that bytes are, or the first line that is none.
+ghost use Rattle.std.specs.Prelude.{◌≡◌, ◌≤◌, length, IfOk};
+ghost use Rattle.std.specs.Str.Lines.{strip_carriage_return, lines};
+ghost use Rattle.apex_world.specs.Playable.{IsPlayable};
+ghost use Rattle.device_script.specs.Script.{is_passed, is_plain, line_read, lines_read, script_of, first_keyword, told_of, IsRead};
+ghost use Rattle.device_script.specs.Draft.{start};
+ghost use Rattle.device_script.specs.Views.{views};
+ghost use Rattle.device_script.specs.Taking.{Takes};
+
+use crate::draft::Draft;
+use crate::fault::{LineError, LineFault, ScriptWhy};
+use crate::keyword::{Keyword, keyword_of};
+use crate::line::line_of;
+use crate::words::{cut_first, words};
+use apex_world::Script;
+use std::alloc::Global;
+
+/// The most bytes that a script may have.
+const LIMIT: usize = 16777216;
+
+/// Whether a line is passed over: it has no word, or its first word begins with a number sign.
+fn is_passed(line: &[u8]) -> bool
+    ensures { result ≡ is_passed line.now }
+{
+    for b in line {
+        if *b != b' ' {
+            return *b == b'#';
+        }
+    }
+    true
+}
+
+fn is_plain(line: &[u8]) -> bool
+    ensures { result ≡ is_plain line.now }
+{
+    line.iter().all(|b| *b >= 32 && *b <= 126)
+}
+
+fn without_return(line: &[u8]) -> &[u8]
+    ensures { result.now ≡ strip_carriage_return line.now }
+{
+    if line.is_empty() {
+        return line;
+    }
+    let last = line.len() - 1;
+    if line[last] == b'\r' {
+        &line[..last]
+    } else {
+        line
+    }
+}
+
+fn first_keyword(words: &[&[u8]]) -> Option<Keyword>
+    ensures { result ≡ first_keyword (views words.now) }
+{
+    match words {
+        [] => None,
+        [word, ..] => keyword_of(word),
+    }
+}
+
+/// The error of a line, told of its number.
+fn told_of(line: u32, e: LineError) -> ScriptWhy
+    ensures { result ≡ told_of line e }
+{
+    match e {
+        LineError::Fault(why) => ScriptWhy::Bad { line, why },
+        LineError::NoMemory => ScriptWhy::NoMemory,
+    }
+}
+
+/// Reads a line that isn't passed over into the draft.
+#[tactic(auto, unfolding(crate::specs::Script::line_read))]
+fn read_line(draft: &mut Draft, alloc: Global, line: &[u8]) -> Result<(), LineError>
+    ensures { Takes result draft.new (line_read draft.old line.now) }
+{
+    if is_passed(line) {
+        return Ok(());
+    }
+    if !is_plain(line) {
+        return Err(LineError::Fault(LineFault::BadByte));
+    }
+    let words = words(alloc, line)?;
+    let Some(keyword) = first_keyword(&words) else {
+        return Err(LineError::Fault(LineFault::UnknownWord));
+    };
+    if draft.is_not_yet(keyword, &words) {
+        return Err(LineError::Fault(LineFault::NotYet));
+    }
+    if !draft.may_stand(keyword) {
+        return Err(LineError::Fault(LineFault::BadPlace));
+    }
+    let line = line_of(keyword, &words)?;
+    draft.take(alloc, &line)
+}
+
+/// Reads lines into a draft, the first of which is line 1.
+fn read_lines(alloc: Global, bytes: &[u8]) -> Result<Draft, ScriptWhy>
+    requires { length bytes.now ≤ LIMIT }
+    ensures { IsRead result (lines_read 1 start (lines bytes.now)) }
+{
+    let mut draft = Draft::start(alloc);
+    let mut rest = bytes;
+    let mut number: u32 = 1;
+    while let Some((line, behind)) = cut_first(rest, b'\n') {
+        match read_line(&mut draft, alloc, without_return(line)) {
+            Err(e) => return Err(told_of(number, e)),
+            Ok(()) => {}
+        }
+        number += 1;
+        rest = behind;
+    }
+    if rest.is_empty() {
+        return Ok(draft);
+    }
+    match read_line(&mut draft, alloc, rest) {
+        Err(e) => Err(told_of(number, e)),
+        Ok(()) => Ok(draft),
+    }
+}
+
+#[tactic(auto, unfolding(crate::specs::Script::script_of))]
+fn read(alloc: Global, bytes: &[u8]) -> Result<Script, ScriptWhy>
+    ensures { IsRead result (script_of bytes.now) }
+{
+    if bytes.len() > LIMIT {
+        return Err(ScriptWhy::Bad {
+            line: 0,
+            why: LineFault::TooLong,
+        });
+    }
+    match read_lines(alloc, bytes) {
+        Err(e) => Err(e),
+        Ok(draft) => match draft.finish() {
+            Err(e) => Err(told_of(1, e)),
+            Ok(script) => Ok(script),
+        },
+    }
+}
+
+/// The script that the bytes are. `Bad` tells the first line that makes them none, and why; `NoMemory` may come
+/// at any time. The format is that of `docs/formats/script.md`.
+pub fn read_script(alloc: Global, bytes: &[u8]) -> Result<Script, ScriptWhy>
+    ensures script { IsRead result (script_of bytes.now) }
+
+    // Boots and steps of a script can be numbered, since it isn't long.
+    ensures playable { IfOk result IsPlayable }
+{
+    match read(alloc, bytes) {
+        Err(e) => Err(e),
+        Ok(script) => Ok(script),
+    }
+}

@@ -1,0 +1,159 @@
+//! The words of a line, and what single words say.
+ghost use Rattle.std.specs.Prelude.{◌≡◌, ◌==◌, ◌<◌, ◌≤◌, ◌∷◌, [], map, length, position, if◌then◌else◌, nat_le, MatchOption, IfSome, IfOk, Some, None};
+ghost use Rattle.std.specs.List.{slice_split, list_all};
+ghost use Rattle.device_script.specs.Words.{words_of, is_digit, is_number, value_of, number_of, scale_of, id_of, time_of, workers_of, part_of, is_plain_kind};
+
+use apex_base::{Millis, Module, Name, Scale, SessionId, Version};
+use std::alloc::{AllocError, Global};
+
+fn place_of(bytes: &[u8], separator: u8) -> Option<usize>
+    ensures place { result ≡ position (λ b. b == separator) bytes.now }
+    ensures within { IfSome result (λ i. i < length bytes.now) }
+{
+    bytes.iter().position(|b| *b == separator)
+}
+
+/// What stands before the first separator, and what stands behind it.
+pub fn cut_first(bytes: &[u8], separator: u8) -> Option<(&[u8], &[u8])>
+    ensures parts { MatchOption result
+        (slice_split (λ b. b == separator) bytes.now ≡ bytes.now ∷ [])
+        (λ p. slice_split (λ b. b == separator) bytes.now ≡ p.0.now ∷ slice_split (λ b. b == separator) p.1.now) }
+    ensures shorter { IfSome result (λ p. length p.1.now < length bytes.now) }
+{
+    match place_of(bytes, separator) {
+        None => None,
+        Some(at) => Some((&bytes[..at], &bytes[at + 1..])),
+    }
+}
+
+/// The words of a line, in order.
+pub fn words(alloc: Global, line: &[u8]) -> Result<Vec<&[u8]>, AllocError>
+    ensures { IfOk result (λ words. map (λ w. w.now) words.items ≡ words_of line.now) }
+{
+    let mut words = Vec::new(alloc);
+    let mut rest = line;
+    while let Some((word, behind)) = cut_first(rest, b' ') {
+        if !word.is_empty() {
+            words.push(word)?;
+        }
+        rest = behind;
+    }
+    if !rest.is_empty() {
+        words.push(rest)?;
+    }
+    Ok(words)
+}
+
+fn all_digits(digits: &[u8]) -> bool
+    ensures { result ≡ list_all is_digit digits.now }
+{
+    digits.iter().all(|b| *b >= b'0' && *b <= b'9')
+}
+
+fn is_number(digits: &[u8]) -> bool
+    ensures { result ≡ is_number digits.now }
+{
+    if digits.is_empty() {
+        return false;
+    }
+    if digits.len() > 1 && digits[0] == b'0' {
+        return false;
+    }
+    all_digits(digits)
+}
+
+fn value(digits: &[u8], most: u64) -> Option<u64>
+    ensures value { result ≡ (if nat_le (value_of digits.now) most then Some (value_of digits.now) else None) }
+    ensures small { IfSome result (λ n. n ≤ most) }
+{
+    let mut n: u128 = 0;
+    for d in digits {
+        n = 10 * n + d.saturating_sub(b'0') as u128;
+        if n > most as u128 {
+            return None;
+        }
+    }
+    Some(n as u64)
+}
+
+#[tactic(auto, unfolding(crate::specs::Words::number_of))]
+fn number(digits: &[u8], most: u64) -> Option<u64>
+    ensures value { result ≡ number_of most digits.now }
+    ensures small { IfSome result (λ n. n ≤ most) }
+{
+    if is_number(digits) {
+        value(digits, most)
+    } else {
+        None
+    }
+}
+
+/// `small` or `standard`.
+pub fn scale(word: &[u8]) -> Option<Scale>
+    ensures { result ≡ scale_of word.now }
+{
+    if word == b"small".as_slice() {
+        Some(Scale::Small)
+    } else if word == b"standard".as_slice() {
+        Some(Scale::Standard)
+    } else {
+        None
+    }
+}
+
+/// A session's id: a whole number up to 4294967295.
+pub fn id(word: &[u8]) -> Option<SessionId>
+    ensures { result ≡ id_of word.now }
+{
+    match number(word, 4294967295) {
+        None => None,
+        Some(n) => Some(SessionId(n as u32)),
+    }
+}
+
+/// A moment in milliseconds.
+pub fn time(word: &[u8]) -> Option<Millis>
+    ensures { result ≡ time_of word.now }
+{
+    match number(word, 9007199254740991) {
+        None => None,
+        Some(n) => Millis::new(n),
+    }
+}
+
+/// A number of workers: 1 to 64.
+pub fn workers(word: &[u8]) -> Option<u32>
+    ensures { result ≡ workers_of word.now }
+{
+    match number(word, 64) {
+        None => None,
+        Some(n) => { if n >= 1 { Some(n as u32) } else { None } }
+    }
+}
+
+/// Whether the word is `plain`, the one kind of a session so far.
+pub fn is_plain_kind(word: &[u8]) -> bool
+    ensures { result ≡ is_plain_kind word.now }
+{
+    word == b"plain".as_slice()
+}
+
+/// `NAME@VERSION`.
+#[tactic(auto, unfolding(crate::specs::Words::part_of))]
+pub fn part(word: &[u8]) -> Option<Module>
+    ensures { result ≡ part_of word.now }
+{
+    let Some(at) = place_of(word, b'@') else {
+        return None;
+    };
+    let Some(name) = Name::read(&word[..at]) else {
+        return None;
+    };
+    let Some(number) = number(&word[at + 1..], 9223372036854775807) else {
+        return None;
+    };
+    let Some(version) = Version::new(number) else {
+        return None;
+    };
+    Some(Module { name, version })
+}
