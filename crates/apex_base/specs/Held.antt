@@ -1,12 +1,47 @@
--- Which target a name has by the sessions that were ever made: docs/sessions.md, "Held and before".
-use Rattle.std.specs.Prelude.{ℕ, ◌&&◌, Bool, true, false, nat_lt, List, Option, Some, None, find, fold, if◌then◌else◌}
+-- Which targets names have, and which are kept, by the sessions that were ever made: docs/sessions.md,
+-- "Held and before" and "Kept".
+use Rattle.std.specs.Prelude.{ℕ, ◌&&◌, ◌||◌, ◌==◌, Bool, true, false, nat_lt, List, [], ◌∷◌, ◌++◌, Option, Some, None, find, fold, flat_map, if◌then◌else◌}
+use Rattle.std.specs.List.{list_any}
 use Rattle.std.specs.Option.{option_map}
 use Rattle.std.specs.Str.{bytes_eq}
+use Rattle.apex_base.specs.declared.numbers.SessionId.{SessionId}
+use Rattle.apex_base.specs.declared.records.Part.{Part}
 use Rattle.apex_base.specs.declared.records.Record.{Record}
+use Rattle.apex_base.specs.declared.records.RollbackState.{RollbackState}
+use Rattle.apex_base.specs.declared.records.RollbackState.TheVariants as rollbacks
 use Rattle.apex_base.specs.declared.records.Target.{Target}
 use Rattle.apex_base.specs.declared.records.Target.TheVariants as targets
 use Rattle.apex_base.specs.declared.records.State.{State}
 use Rattle.apex_base.specs.declared.records.State.TheVariants as state
+
+-- the state of a session that may still change what a name holds
+abbrev pub is_unfinished : State → Bool
+is_unfinished state.Verified = true
+is_unfinished state.Staged = true
+is_unfinished state.Activated = true
+is_unfinished state.ActivationFailed = false
+is_unfinished state.Success = false
+is_unfinished state.RevertInProgress = true
+is_unfinished state.Reverted = false
+is_unfinished state.Aborted = false
+
+-- the state of a session that can still be undone
+abbrev pub is_undoable : State → Bool
+is_undoable state.Verified = false
+is_undoable state.Staged = false
+is_undoable state.Activated = true
+is_undoable state.ActivationFailed = false
+is_undoable state.Success = false
+is_undoable state.RevertInProgress = true
+is_undoable state.Reverted = false
+is_undoable state.Aborted = false
+
+abbrev pub is_available : Option RollbackState → Bool
+is_available None = false
+is_available (Some rollbacks.Enabling) = false
+is_available (Some rollbacks.Available) = true
+is_available (Some rollbacks.Committed) = false
+is_available (Some rollbacks.Deleted) = false
 
 -- the state of a session whose modules stand
 abbrev pub is_standing : State → Bool
@@ -55,3 +90,24 @@ held sessions name = latest (λ r. is_standing r.state) sessions name
 -- the target that a name held before session x: that of the SUCCESS sessions that were activated before it
 abbrev pub before : List Record → Record → List ℕ → Target
 before sessions x name = latest (λ r. is_success r.state && nat_lt r.activation x.activation) sessions name
+
+-- the targets that a session keeps for one of its names: its own while it is unfinished, what the name holds
+-- while its modules stand, and what the name held before while it can be undone or rolled back
+abbrev pub kept_for : List Record → Record → Part → List Target
+kept_for sessions r p =
+    (if is_unfinished r.state then p.target ∷ [] else [])
+    ++ (if is_standing r.state then held sessions p.name ∷ [] else [])
+    ++ (if is_undoable r.state || is_available r.rollback then before sessions r p.name ∷ [] else [])
+
+-- the targets whose modules are kept
+abbrev pub kept : List Record → List Target
+kept sessions = flat_map (λ r. flat_map (kept_for sessions r) r.parts) sessions
+
+-- a target is the module that this part of this session submitted
+abbrev pub is_module : SessionId → ℕ → Target → Bool
+is_module session part targets.Preinstalled = false
+is_module session part (targets.Module s p version) = (s.0 == session.0) && (p == part)
+
+-- this module is among the targets
+abbrev pub is_target : List Target → SessionId → ℕ → Bool
+is_target targets session part = list_any (is_module session part) targets

@@ -1,9 +1,11 @@
 pub mod Causes
 pub mod Held
 pub mod Memory
+pub mod Modules
 pub mod Moves
 pub mod Numbers
 pub mod Outside
 pub mod Padded
 pub mod Ranges
+pub mod Results
 pub mod Text

@@ -1,6 +1,7 @@
--- Short texts: names and fingerprints. docs/formats/script.md, "Words".
-use Rattle.std.specs.Prelude.{ℕ, ◌&&◌, ◌||◌, ◌==◌, Bool, not, nat_le, List, length, Option, Some, None, if◌then◌else◌}
-use Rattle.std.specs.List.{list_all}
+-- Short texts: names, fingerprints and paths. docs/formats/script.md, "Words".
+use Rattle.std.specs.Prelude.{ℕ, ◌&&◌, ◌||◌, ◌==◌, Bool, not, nat_le, List, length, codes, Option, Some, None, if◌then◌else◌}
+use Rattle.std.specs.List.{list_all, slice_split}
+use Rattle.std.specs.Str.{bytes_eq}
 
 -- a letter, a digit, a low line or a full stop
 abbrev pub is_name_byte : ℕ → Bool
@@ -27,3 +28,15 @@ name_of bytes = if is_name bytes then Some bytes else None
 -- the fingerprint that the bytes are
 abbrev pub print_of : List ℕ → Option (List ℕ)
 print_of bytes = if is_print bytes then Some bytes else None
+
+-- a part of a path, between slashes
+abbrev pub is_segment : List ℕ → Bool
+is_segment bytes = not (length bytes == 0) && not (bytes_eq bytes (codes ".")) && not (bytes_eq bytes (codes "..")) && list_all is_print_byte bytes
+
+-- segments, joined by slashes
+unfoldable pub is_path : List ℕ → Bool
+is_path bytes = nat_le (length bytes) 128 && list_all is_segment (slice_split (λ b. b == 47) bytes)
+
+-- the path that the bytes are
+abbrev pub path_of : List ℕ → Option (List ℕ)
+path_of bytes = if is_path bytes then Some bytes else None

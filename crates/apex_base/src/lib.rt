@@ -1,11 +1,16 @@
 //! The plain types of the module manager, and the traits of what stands outside it.
 #![tactic(auto)]
 
+mod cut;
+mod fault;
 mod listed;
 mod memory;
+mod module;
 mod moves;
 mod numbers;
 mod outside;
+mod padded;
+mod path;
 mod records;
 mod refusal;
 mod shared;
@@ -13,14 +18,18 @@ mod shared;
 mod tests;
 mod text;
 
+pub use cut::cut_first;
+pub use fault::ModuleFault;
 pub use listed::Listed;
 pub use memory::{MemSink, MemSource};
+pub use module::{Module, PutWhy};
 pub use moves::{Move, moved};
 pub use numbers::{Millis, Scale, SessionId, Version};
 pub use outside::{Failed, Gate, Mounter, OpenGate, Sink, Source};
+pub use path::FilePath;
 pub use records::{
-    Bytes, Case, Cause, ChildList, Kind, Level, Module, ModuleList, Part, PartList, Pick, Place,
-    Reason, Record, RollbackState, State, Target,
+    Bytes, Case, Cause, ChildList, Kind, Level, Part, PartList, Pick, Place, Reason, Record,
+    RollbackState, State, Target,
 };
 pub use refusal::Refusal;
 pub use shared::Shared;

@@ -1,6 +1,7 @@
 //! Modules, sessions and their parts, and what becomes of them. Plain data: which values go together is
 //! decided by the crates above.
 ghost use Rattle.std.specs.Prelude.{◌≡◌};
+ghost use Rattle.apex_base.specs.Held.{is_unfinished, is_standing, is_undoable};
 ghost use Rattle.apex_base.specs.Moves.{state_number};
 
 use crate::listed::Listed;
@@ -33,6 +34,45 @@ impl State {
             State::RevertInProgress => 6,
             State::Reverted => 7,
             State::Aborted => 8,
+        }
+    }
+
+    /// Whether a session in it may still change what a name holds.
+    pub fn is_unfinished(self) -> bool
+        ensures { result ≡ is_unfinished self }
+    {
+        match self {
+            State::Verified | State::Staged | State::Activated | State::RevertInProgress => true,
+            State::ActivationFailed | State::Success | State::Reverted | State::Aborted => false,
+        }
+    }
+
+    /// Whether the modules of a session in it stand.
+    pub fn is_standing(self) -> bool
+        ensures { result ≡ is_standing self }
+    {
+        match self {
+            State::Activated | State::Success | State::RevertInProgress => true,
+            State::Verified
+            | State::Staged
+            | State::ActivationFailed
+            | State::Reverted
+            | State::Aborted => false,
+        }
+    }
+
+    /// Whether a session in it can still be undone.
+    pub fn is_undoable(self) -> bool
+        ensures { result ≡ is_undoable self }
+    {
+        match self {
+            State::Activated | State::RevertInProgress => true,
+            State::Verified
+            | State::Staged
+            | State::ActivationFailed
+            | State::Success
+            | State::Reverted
+            | State::Aborted => false,
         }
     }
 }
@@ -107,16 +147,6 @@ pub type PartList = Listed<Part>;
 
 /// Bytes of any content, seen as a list.
 pub type Bytes = Listed<u8>;
-
-/// A module: its name and its version.
-#[derive(Clone, Copy)]
-pub struct Module {
-    pub name: Name,
-    pub version: Version,
-}
-
-/// Modules, seen as a list.
-pub type ModuleList = Listed<Module>;
 
 /// What a boot chose for a name: a version and its place, or None where the name is missing.
 #[derive(Clone, Copy)]

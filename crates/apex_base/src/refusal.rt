@@ -1,5 +1,5 @@
 //! Why a call is refused, with the values that a person would ask for next.
-use crate::{Name, RollbackState, SessionId, State, Version};
+use crate::{ModuleFault, Name, RollbackState, SessionId, State, Version};
 
 /// The causes, in the order in which a call's checks name them. A refusal changes nothing.
 #[derive(Clone, Copy)]
@@ -12,6 +12,11 @@ pub enum Refusal {
     },
     Parts {
         count: u32,
+    },
+    /// `part` is counted from 1.
+    Module {
+        part: u32,
+        fault: ModuleFault,
     },
     TwiceNamed {
         name: Name,

@@ -1,5 +1,9 @@
 //! What no clause says: that a call with memory succeeds, what counts as a name, and which call fails.
-use crate::{Failed, Listed, MemSink, MemSource, Name, Print, SessionId, Shared, Sink, Source};
+use crate::{
+    Failed, FilePath, Listed, MemSink, MemSource, Module, ModuleFault, Name, Print, PutWhy,
+    SessionId, Shared, Sink, Source,
+};
+use std::alloc::Global;
 use std::test::Fail;
 
 #[test]
@@ -52,6 +56,103 @@ fn names_and_fingerprints_are_told_apart(rt: HostRuntime) {
             "the fingerprint {text:?}"
         );
     }
+}
+
+fn path(text: &str) -> Result<FilePath, Fail> {
+    Ok(FilePath::read(text.as_bytes()).ok_or("a path")?)
+}
+
+#[test]
+fn paths_are_segments_joined_by_slashes(rt: HostRuntime) {
+    // Of 128 bytes, and of 129.
+    let full =
+        "apex/0123456789/0123456789/0123456789/0123456789/0123456789/0123456789/0123456789/0123456789/0123456789/0123456789/0123456789/01";
+    let too_long =
+        "apex/0123456789/0123456789/0123456789/0123456789/0123456789/0123456789/0123456789/0123456789/0123456789/0123456789/0123456789/012";
+    for (text, is_path) in [
+        ("apex_manifest.json", true),
+        ("etc/classpaths/...", true),
+        ("~", true),
+        ("a/.b/c..", true),
+        ("", false),
+        ("/a", false),
+        ("a/", false),
+        ("a//b", false),
+        (".", false),
+        ("a/..", false),
+        ("./a", false),
+        ("a b", false),
+        ("a\u{7f}", false),
+        (full, true),
+        (too_long, false),
+    ] {
+        assert_eq!(rt;
+            FilePath::read(text.as_bytes()).is_some(),
+            is_path,
+            "the path {text:?}"
+        );
+    }
+}
+
+fn zeros(alloc: Global, len: usize) -> Result<Vec<u8>, Fail> {
+    Ok(vec![in alloc; 0; len]?)
+}
+
+#[test]
+fn a_module_has_64_files_of_a_mebibyte_at_most(rt: HostRuntime) -> Result<(), Fail> {
+    let mut directory = Module::new(rt.alloc());
+    for number in 0..64u32 {
+        let name = format!(in rt.alloc(); "f{number}")?;
+        let put = directory.put(path(name.as_str())?, zeros(rt.alloc(), 1)?);
+        assert_eq!(rt; put, Ok(()));
+    }
+    assert_eq!(rt; directory.weight(), 64 * 257);
+    let other = path("other")?;
+    assert_eq!(rt;
+        directory.put(other, zeros(rt.alloc(), 1)?),
+        Err(PutWhy::Files)
+    );
+    let first = path("f0")?;
+    let large = Err(PutWhy::Large { len: 1048577 });
+    assert_eq!(rt; directory.put(first, zeros(rt.alloc(), 1048577)?), large);
+    assert_eq!(rt; directory.put(first, zeros(rt.alloc(), 1048576)?), Ok(()));
+    assert_eq!(rt; directory.weight(), 63 * 257 + 1048832);
+    assert!(rt; directory.remove(&first));
+    assert!(rt; !directory.remove(&first));
+    assert!(rt; directory.get(&first).is_none());
+    assert_eq!(rt; directory.put(other, zeros(rt.alloc(), 0)?), Ok(()));
+    assert_eq!(rt; directory.get(&other), Some(b"".as_slice()));
+    Ok(())
+}
+
+#[test]
+fn faults_are_printed(rt: HostRuntime) -> Result<(), Fail> {
+    let a = path("lib/a.so")?;
+    let differs = ModuleFault::Differs {
+        path: a,
+        listed: [10; 32],
+        actual: [255; 32],
+    };
+    let cases = [
+        (ModuleFault::NoManifest, "no-manifest"),
+        (ModuleFault::NotJson, "not-json"),
+        (ModuleFault::NoName, "no-name"),
+        (ModuleFault::BadName, "bad-name"),
+        (ModuleFault::NoVersion, "no-version"),
+        (ModuleFault::BadVersion, "bad-version"),
+        (ModuleFault::NoListing, "no-listing"),
+        (ModuleFault::BadListing { line: 3 }, "bad-listing 3"),
+        (ModuleFault::Unlisted { path: a }, "unlisted lib/a.so"),
+        (ModuleFault::Absent { path: a }, "absent lib/a.so"),
+        (
+            differs,
+            "differs lib/a.so 0a0a0a0a0a0a0a0a0a0a0a0a0a0a0a0a0a0a0a0a0a0a0a0a0a0a0a0a0a0a0a0a ffffffffffffffffffffffffffffffffffffffffffffffffffffffffffffffff",
+        ),
+    ];
+    for (fault, words) in cases {
+        assert_eq!(rt; fault.to_string(rt.alloc())?.as_str(), words);
+    }
+    Ok(())
 }
 
 #[test]

@@ -1,58 +1,17 @@
 //! Names and fingerprints. Their bytes stand in the value, so that a copy takes no memory.
-ghost use Rattle.std.specs.Prelude.{◌≡◌, ◌≤◌, length, IsTrue};
+ghost use Rattle.std.specs.Prelude.{◌≡◌, ◌≤◌, length, IsTrue, nat_eq, refl};
 ghost use Rattle.std.specs.List.{list_all};
-ghost use Rattle.std.specs.Ordering.{nat_cmp};
+ghost use Rattle.std.specs.Ordering.{nat_cmp, as_partial_cmp};
+ghost use Rattle.std.specs.Cmp;
 ghost use Rattle.std.specs.Str.{bytes_eq};
-ghost use Rattle.std.specs.Cmp.Lexicographic.{slice_cmp};
+ghost use Rattle.std.specs.Cmp.Lexicographic.{slice_cmp, pointwise, nat_list_eq_equiv, nat_list_cmp_total, texts_ties, texts_po};
 ghost use Rattle.apex_base.specs.Text.{is_name, is_name_byte, is_print, is_print_byte, name_of, print_of};
 
+use crate::padded::ShortText;
 use std::cmp::Ordering;
 use std::marker::Model;
 
 const CAPACITY: usize = 64;
-
-/// At most 64 bytes, with zeros behind them.
-#[derive(Clone, Copy)]
-struct ShortText {
-    bytes: [u8; 64],
-    len: u8,
-}
-
-impl Model for ShortText {
-    ghost use Rattle.std.specs.Prelude.{List, ℕ, take};
-
-    ghost Value = { List ℕ };
-
-    ghost use Rattle.apex_base.specs.Padded.{IsPadded, padded, padded-take};
-
-    ghost view = { λ text. take text.len text.bytes };
-
-    ghost invariant = { IsPadded };
-
-    ghost inverse = { padded };
-
-    ghost inverse_ok = { padded-take };
-}
-
-impl ShortText {
-    fn of(text: &[u8]) -> Self
-        requires { length text.now ≤ 64 }
-        ensures { result ≡ text.now }
-    {
-        let mut bytes = [0; 64];
-        bytes[..text.len()].copy_from_slice(text);
-        ShortText {
-            bytes,
-            len: text.len() as u8,
-        }
-    }
-
-    fn as_bytes(&self) -> &[u8]
-        ensures { result.now ≡ self.now }
-    {
-        &self.bytes[..usize::from(self.len)]
-    }
-}
 
 fn is_name_byte(b: u8) -> bool
     ensures { result ≡ is_name_byte b }
@@ -72,7 +31,8 @@ fn all_name_bytes(bytes: &[u8]) -> bool
     bytes.iter().all(|b| is_name_byte(*b))
 }
 
-fn all_print_bytes(bytes: &[u8]) -> bool
+/// Whether all bytes are printable ones that are no space.
+pub fn all_print_bytes(bytes: &[u8]) -> bool
     ensures { result ≡ list_all is_print_byte bytes.now }
 {
     bytes.iter().all(|b| is_print_byte(*b))
@@ -106,10 +66,11 @@ fn is_print(bytes: &[u8]) -> bool
     all_print_bytes(bytes)
 }
 
-/// A name of a module, an observer, a data key or a label: 1 to 64 bytes of `A-Z a-z 0-9 _ .`.
+/// A name of a module, an observer, a data key or a label: 1 to 64 bytes of `A-Z a-z 0-9 _ .`. Names are
+/// ordered by their bytes.
 #[derive(Clone, Copy)]
 pub struct Name {
-    text: ShortText,
+    text: ShortText<64>,
 }
 
 impl Model for Name {
@@ -153,11 +114,42 @@ impl Name {
     {
         self.as_bytes() == other.as_bytes()
     }
+}
 
-    /// The order of names: by their bytes.
-    pub fn order(&self, other: &Name) -> Ordering
-        ensures { result ≡ slice_cmp nat_cmp self.now other.now }
-    {
+impl PartialEq for Name {
+    ghost eq = { pointwise nat_eq };
+
+    ghost laws = { Cmp.partial_equiv_from_equiv nat_list_eq_equiv };
+
+    fn eq(&self, other: &Name) -> bool {
+        self.as_bytes() == other.as_bytes()
+    }
+}
+
+impl Eq for Name {
+    ghost laws = { nat_list_eq_equiv };
+}
+
+impl PartialOrd for Name {
+    ghost partial_cmp = { as_partial_cmp (slice_cmp nat_cmp) };
+
+    ghost laws = { texts_po };
+
+    fn partial_cmp(&self, other: &Name) -> Option<Ordering> {
+        Some(self.cmp(other))
+    }
+}
+
+impl Ord for Name {
+    ghost cmp = { slice_cmp nat_cmp };
+
+    ghost total = { nat_list_cmp_total };
+
+    ghost matches_partial_cmp = { λ x y. refl };
+
+    ghost matches_eq = { texts_ties };
+
+    fn cmp(&self, other: &Name) -> Ordering {
         self.as_bytes().cmp(other.as_bytes())
     }
 }
@@ -165,7 +157,7 @@ impl Name {
 /// A build's fingerprint: 1 to 64 bytes of 0x21 to 0x7e.
 #[derive(Clone, Copy)]
 pub struct Print {
-    text: ShortText,
+    text: ShortText<64>,
 }
 
 impl Model for Print {

@@ -1,1 +1,2 @@
+pub mod ShortForms
 pub mod TurnLemmas

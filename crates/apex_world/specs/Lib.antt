@@ -1,8 +1,13 @@
 pub mod Boot
 pub mod Fold
+pub mod Forms
+pub mod Limits
 pub mod Playable
 pub mod Selection
+pub mod Sessions
+pub mod Soundness
 pub mod Step
+pub mod Submit
 pub mod Text
 pub mod Turns
 pub mod World

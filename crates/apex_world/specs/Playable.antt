@@ -1,5 +1,5 @@
 -- What a script that was read has: docs/formats/script.md, "Bounds".
-use Rattle.std.specs.Prelude.{ℕ, ◌^◌, ◌<◌, ◌≤◌, length, flat_map}
+use Rattle.std.specs.Prelude.{◌≡◌, false, [], ℕ, ◌^◌, ◌<◌, ◌≤◌, length, flat_map}
 use Rattle.std.specs.List.{All}
 use Rattle.apex_world.specs.declared.calls.Call.{Call}
 use Rattle.apex_world.specs.declared.calls.Call.TheVariants as calls
@@ -9,18 +9,18 @@ use Rattle.apex_world.specs.declared.script.ScriptBoot.{ScriptBoot}
 use Rattle.apex_world.specs.declared.script.Segment.{Segment}
 use Rattle.apex_world.specs.Turns.{lane_calls}
 
--- a call that lines make so far, with parts that can be numbered
+-- a call that lines make so far
 abbrev pub IsBuilt : Call → Type 0
-IsBuilt (calls.Submit id children rollback parts) = length parts < 2 ^ 32
+IsBuilt (calls.Submit id children rollback parts) = (children ≡ []) × (rollback ≡ false) × (length parts ≡ 1)
 IsBuilt (calls.Ready id) = Unit {0}
-IsBuilt (calls.Abort id) = ⊥
+IsBuilt (calls.Abort id) = Unit {0}
 IsBuilt (calls.Success time id) = Unit {0}
 IsBuilt calls.Revert = ⊥
 IsBuilt (calls.Commit id) = ⊥
 IsBuilt (calls.Put name key value) = ⊥
 IsBuilt (calls.Drop name key) = ⊥
 IsBuilt (calls.Get name key) = ⊥
-IsBuilt (calls.StateOf id) = ⊥
+IsBuilt (calls.StateOf id) = Unit {0}
 IsBuilt (calls.Watch time observer duration names) = ⊥
 IsBuilt (calls.Report time name reason) = ⊥
 

@@ -9,7 +9,6 @@ use Rattle.std.specs.Str.{bytes_eq}
 use Rattle.apex_base.specs.declared.numbers.SessionId.{SessionId}
 use Rattle.apex_base.specs.declared.records.Record.{Record}
 use Rattle.apex_base.specs.declared.records.Part.{Part}
-use Rattle.apex_base.specs.declared.records.Module.{Module}
 use Rattle.apex_base.specs.declared.records.Pick.{Pick}
 use Rattle.apex_base.specs.declared.records.Place.{Place}
 use Rattle.apex_base.specs.declared.records.Place.TheVariants.{Data, Pre}
@@ -20,50 +19,50 @@ use Rattle.apex_base.specs.declared.records.Cause.TheVariants as causes
 use Rattle.apex_base.specs.declared.records.Target.{Target}
 use Rattle.apex_base.specs.declared.records.Target.TheVariants as targets
 use Rattle.apex_base.specs.Held.{held}
+use Rattle.apex_world.specs.declared.modules.Package.{Package}
 use Rattle.apex_world.specs.declared.world.Submission.{Submission}
+use Rattle.apex_world.specs.Soundness.{is_sound, is_same_key}
 
 -- whether a module of this name, version and place mounts
 abbrev pub Mounts : Type 0
 Mounts = List ℕ → ℕ → Place → Bool
 
 -- the module of a name among those of an image
-abbrev pub preinstalled : List Module → List ℕ → Option Module
+abbrev pub preinstalled : List Package → List ℕ → Option Package
 preinstalled modules name = find (λ m. bytes_eq m.name name) modules
 
 -- the module that a part of a session submitted
-abbrev pub submitted_by : List Submission → SessionId → ℕ → Option Module
+abbrev pub submitted_by : List Submission → SessionId → ℕ → Option Package
 submitted_by modules session part = option_map (λ s. s.content) (find (λ s. (s.session.0 == session.0) && (s.part == part)) modules)
 
--- a module is sound; each is, since none has files yet
-abbrev pub is_sound : Module → Bool
-is_sound m = true
-
--- two modules have one key; any two have, since none has a key yet
-abbrev pub is_same_key : Option Module → Module → Bool
-is_same_key given m = true
-
 -- why the preinstalled module doesn't work, by the first case that holds
-abbrev pub preinstalled_case : Mounts → Module → Option Case
-preinstalled_case mounts m = if not (is_sound m) then Some Unsound else (if mounts m.name m.version Pre then None else Some NoMount)
+abbrev pub preinstalled_case : Mounts → Package → Option Case
+preinstalled_case mounts m = if not (is_sound m.content) then Some Unsound else (if mounts m.name m.version Pre then None else Some NoMount)
 
--- why a data module of a version doesn't work beside the preinstalled one; it was sound when it was submitted
-abbrev pub data_case : Mounts → Option Module → ℕ → Module → Option Case
+-- why a data module of a version doesn't work beside the preinstalled one
+abbrev pub data_case : Mounts → Package → ℕ → Package → Option Case
 data_case mounts given version m =
     if nat_lt version m.version then Some BelowPreinstalled
-    else (if not (is_same_key given m) then Some KeyDiffers
+    else (if not (is_same_key given.content m.content) then Some KeyDiffers
+    else (if not (is_sound given.content) then Some Unsound
     else (if mounts m.name version Data then None
-    else Some NoMount))
+    else Some NoMount)))
 
-abbrev pub target_case : Mounts → List Submission → Target → Module → Option Case
+-- a module that nobody submitted is none
+abbrev pub submitted_case : Mounts → Option Package → ℕ → Package → Option Case
+submitted_case mounts None version m = Some Unsound
+submitted_case mounts (Some given) version m = data_case mounts given version m
+
+abbrev pub target_case : Mounts → List Submission → Target → Package → Option Case
 target_case mounts modules targets.Preinstalled m = preinstalled_case mounts m
-target_case mounts modules (targets.Module session part version) m = data_case mounts (submitted_by modules session part) version m
+target_case mounts modules (targets.Module session part version) m = submitted_case mounts (submitted_by modules session part) version m
 
-abbrev pub case_beside : Mounts → List Submission → Target → Option Module → Option Case
+abbrev pub case_beside : Mounts → List Submission → Target → Option Package → Option Case
 case_beside mounts modules target None = Some NotInImage
 case_beside mounts modules target (Some m) = target_case mounts modules target m
 
 -- why a part doesn't work with an image
-abbrev pub case_of : Mounts → List Submission → List Module → Part → Option Case
+abbrev pub case_of : Mounts → List Submission → List Package → Part → Option Case
 case_of mounts modules image p = case_beside mounts modules p.target (preinstalled image p.name)
 
 abbrev pub cause_or : List ℕ → Option Case → Option Cause → Option Cause
@@ -71,21 +70,21 @@ cause_or name None rest = rest
 cause_or name (Some case) rest = Some (causes.Part name case)
 
 -- why a session doesn't work: the case of its first part that doesn't
-abbrev pub cause_of : Mounts → List Submission → List Module → List Part → Option Cause
+abbrev pub cause_of : Mounts → List Submission → List Package → List Part → Option Cause
 cause_of mounts modules image [] = None
 cause_of mounts modules image (p ∷ ps) = cause_or p.name (case_of mounts modules image p) (cause_of mounts modules image ps)
 
 -- the preinstalled module where it works, else nothing: the name is missing
-abbrev pub fallback : Mounts → Module → Option (ℕ × Place)
+abbrev pub fallback : Mounts → Package → Option (ℕ × Place)
 fallback mounts m = if is_none (preinstalled_case mounts m) then Some (m.version, Pre) else None
 
 -- the held data module where it works, else the fallback
-abbrev pub choice : Mounts → List Submission → Target → Module → Option (ℕ × Place)
+abbrev pub choice : Mounts → List Submission → Target → Package → Option (ℕ × Place)
 choice mounts modules targets.Preinstalled m = fallback mounts m
-choice mounts modules (targets.Module session part version) m = if is_none (data_case mounts (submitted_by modules session part) version m) then Some (version, Data) else fallback mounts m
+choice mounts modules (targets.Module session part version) m = if is_none (submitted_case mounts (submitted_by modules session part) version m) then Some (version, Data) else fallback mounts m
 
 -- what is chosen for the name of a preinstalled module
-abbrev pub pick_of : Mounts → List Submission → List Record → Module → Pick
+abbrev pub pick_of : Mounts → List Submission → List Record → Package → Pick
 pick_of mounts modules sessions m = record { name = m.name; chosen = choice mounts modules (held sessions m.name) m }
 
 -- a pick among others, behind those of lesser names
@@ -94,7 +93,7 @@ with_pick p [] = p ∷ []
 with_pick p (q ∷ qs) = if is_lt (slice_cmp nat_cmp q.name p.name) then q ∷ with_pick p qs else p ∷ q ∷ qs
 
 -- what is chosen for each name of the image, ascending by name
-abbrev pub chosen : Mounts → List Submission → List Record → List Module → List Pick
+abbrev pub chosen : Mounts → List Submission → List Record → List Package → List Pick
 chosen mounts modules sessions image = fold (λ picks m. with_pick (pick_of mounts modules sessions m) picks) [] image
 
 abbrev pub is_same_place : Place → Place → Bool

@@ -3,6 +3,8 @@ use Rattle.std.specs.Prelude.{ℕ, List, [], ◌∷◌, ◌++◌, length, Option
 use Rattle.std.specs.Fmt.{decimal}
 use Rattle.hex.specs.Hex.{encode_lower}
 use Rattle.apex_base.specs.declared.numbers.SessionId.{SessionId}
+use Rattle.apex_base.specs.declared.fault.ModuleFault.{ModuleFault}
+use Rattle.apex_base.specs.declared.fault.ModuleFault.TheVariants as faults
 use Rattle.apex_base.specs.declared.records.Case.{Case}
 use Rattle.apex_base.specs.declared.records.Case.TheVariants as case
 use Rattle.apex_base.specs.declared.records.Cause.{Cause}
@@ -57,10 +59,25 @@ cause_text causes.OtherBuild = codes "other-build"
 cause_text (causes.Superseded id) = codes "superseded " ++ decimal id.0
 cause_text (causes.Part name case) = codes "part " ++ name ++ codes " " ++ case_text case
 
+-- what is wrong with a module
+unfoldable pub fault_text : ModuleFault → List ℕ
+fault_text faults.NoManifest = codes "no-manifest"
+fault_text faults.NotJson = codes "not-json"
+fault_text faults.NoName = codes "no-name"
+fault_text faults.BadName = codes "bad-name"
+fault_text faults.NoVersion = codes "no-version"
+fault_text faults.BadVersion = codes "bad-version"
+fault_text faults.NoListing = codes "no-listing"
+fault_text (faults.BadListing line) = codes "bad-listing " ++ decimal line
+fault_text (faults.Unlisted path) = codes "unlisted " ++ path
+fault_text (faults.Absent path) = codes "absent " ++ path
+fault_text (faults.Differs path listed actual) = codes "differs " ++ path ++ codes " " ++ encode_lower listed ++ codes " " ++ encode_lower actual
+
 unfoldable pub refusal_text : Refusal → List ℕ
 refusal_text (refusals.IdRange id) = codes "id-range " ++ decimal id.0
 refusal_text (refusals.IdTaken id) = codes "id-taken " ++ decimal id.0
 refusal_text (refusals.Parts count) = codes "parts " ++ decimal count
+refusal_text (refusals.Module part fault) = codes "part " ++ decimal part ++ codes " " ++ fault_text fault
 refusal_text (refusals.TwiceNamed name) = codes "twice-named " ++ name
 refusal_text (refusals.NotPreinstalled name) = codes "not-preinstalled " ++ name
 refusal_text (refusals.KeyDiffers name) = codes "key-differs " ++ name

@@ -1,7 +1,8 @@
 //! Calls and boots, and what they answer.
+use crate::modules::{ModuleList, PackageList};
 use apex_base::{
-    Bytes, Cause, Level, Listed, Millis, ModuleList, Name, Pick, Print, Reason, Refusal,
-    RollbackState, Scale, SessionId, Shared, State,
+    Bytes, Cause, Level, Listed, Millis, Name, Pick, Print, Reason, Refusal, RollbackState, Scale,
+    SessionId, Shared, State,
 };
 
 /// Ids of sessions, seen as a list.
@@ -78,7 +79,7 @@ pub enum Reply {
 #[derive(Drop)]
 pub struct Image {
     pub print: Print,
-    pub modules: ModuleList,
+    pub modules: PackageList,
 }
 
 /// What an observer is: one of a fixed level, or the one that commits rollbacks.

@@ -3,6 +3,7 @@
 #![tactic(auto)]
 
 mod calls;
+mod modules;
 mod script;
 mod turns;
 mod world;
@@ -11,8 +12,15 @@ pub use calls::{
     ActiveSet, BootOrder, BootReply, Call, ChangeList, Changed, IdList, Image, NameList, Observer,
     ObserverKind, ObserverList, Reply,
 };
+pub use modules::{
+    ModuleList, Package, PackageList, SharedModule, check_module, manifest_in,
+    sound_modules_are_sealed,
+};
 pub use script::{
     BootList, CallList, Cut, Lane, LaneList, MountList, Script, ScriptBoot, Segment, SegmentList,
 };
 pub use turns::{Fate, TurnRow, Turns};
 pub use world::Submission;
+
+#[cfg(test)]
+mod tests;

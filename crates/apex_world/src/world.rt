@@ -1,10 +1,11 @@
 //! What the world keeps beside sessions.
-use apex_base::{Module, SessionId};
+use crate::modules::Package;
+use apex_base::SessionId;
 
 /// The module that a part of a session submitted; parts are counted from 0.
-#[derive(Clone, Copy)]
+#[derive(Drop)]
 pub struct Submission {
     pub session: SessionId,
     pub part: u32,
-    pub content: Module,
+    pub content: Package,
 }

@@ -26,7 +26,7 @@ fn words(rt: &(impl Env + AllocGlobal)) -> Result<Vec<String>, Status> {
 }
 
 /// Says on standard error why a run ended, in one line. There is nobody to tell where that fails.
-fn explain(rt: &impl Eprint, status: Status) {
+fn explain(rt: &impl Eprint, status: &Status) {
     let _ = match status {
         Status::Done => Ok(()),
         Status::Usage => eprintln!(rt; "apexplay: usage"),
@@ -56,6 +56,6 @@ fn main(rt: HostRuntime) -> ExitCode {
         Err(status) => status,
         Ok(words) => play(&rt, &words),
     };
-    explain(&rt, status);
+    explain(&rt, &status);
     ExitCode::from(status.number())
 }

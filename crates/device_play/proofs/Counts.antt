@@ -1,11 +1,10 @@
 -- How many calls each lane has had. Callers want `counts_more` and `counts_few`.
-use Rattle.std.proofs.Common.{◌≡◌, ℕ, ◌+◌, ◌<◌, ◌≤◌, ◌≢◌, ◌^◌, Bool, true, false, cond, eqb, List, [], ◌∷◌, ◌++◌, length, get_or, set, take, drop, flat_map, sym, ap, subst, ◌∙◌, refl, arith, inl, inr, ◌⊎◌, get_or-set_other, get_or-set_same, length-set, append_assoc, rules, eq-eqb}
+use Rattle.std.proofs.Common.{◌≡◌, ℕ, ◌+◌, ◌<◌, ◌≤◌, ◌≢◌, true, false, cond, eqb, List, [], ◌∷◌, ◌++◌, length, get_or, set, take, drop, sym, ap, subst, ◌∙◌, refl, arith, inl, inr, ◌⊎◌, get_or-set_other, get_or-set_same, length-set, append_assoc, eq-eqb}
 use Rattle.std.specs.List.{All}
 use Rattle.std.proofs.lemmas.Bool.Decides.{nat_tests}
 use Rattle.std.proofs.lemmas.Bool.{cases_eq}
-use Rattle.std.proofs.lemmas.List.{length-append, append-nil, take_more, take-append-drop}
+use Rattle.std.proofs.lemmas.List.{length-append, append-nil}
 use Rattle.std.proofs.lemmas.Grind.{flat_map-append}
-use Rattle.apex_world.specs.declared.calls.Call.{Call}
 use Rattle.apex_world.specs.declared.script.Lane.{Lane}
 use Rattle.apex_world.specs.declared.script.Segment.{Segment}
 use Rattle.apex_world.specs.declared.script.ScriptBoot.{ScriptBoot}

@@ -1,6 +1,6 @@
+pub mod Bounds
 pub mod Counts
 pub mod InPlace
-pub mod Parts
 pub mod Plans
 pub mod PlayedLemmas
 pub mod Puts
@@ -8,3 +8,4 @@ pub mod Runs
 pub mod Search
 pub mod Sources
 pub mod Statuses
+pub mod Submits

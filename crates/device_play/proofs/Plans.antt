@@ -1,14 +1,12 @@
 -- The plan of a script: its turns are the script's, in its order, and each step is what the script says there.
 -- Callers want `plan_played` and `plan_stopped`.
-use Rattle.std.proofs.Common.{◌≡◌, ℕ, zero, suc, ◌+◌, ◌-◌, ◌<◌, Bool, true, false, ◌&&◌, cond, eqb, List, [], ◌∷◌, ◌++◌, length, map, fold, flat_map, Option, Some, None, slice_get, sym, ap, ◌∙◌, subst, refl, arith, append_assoc}
-use Rattle.std.specs.Prelude.{Result, Ok, Err}
+use Rattle.std.proofs.Common.{◌≡◌, ℕ, ◌+◌, ◌-◌, Bool, true, false, ◌&&◌, cond, eqb, List, [], ◌∷◌, ◌++◌, length, map, flat_map, Some, slice_get, sym, ap, ◌∙◌, subst, refl, arith, append_assoc}
 use Rattle.std.specs.List.{All, AllByRecursion}
-use Rattle.std.specs.Option.{option_map, option_and_then}
+use Rattle.std.specs.Option.{option_and_then}
 use Rattle.std.proofs.lemmas.Bool.Decides.{nat_tests}
-use Rattle.std.proofs.lemmas.List.{append-nil, map-append, length-append}
+use Rattle.std.proofs.lemmas.List.{map-append, length-append}
 use Rattle.std.proofs.lemmas.List.Elements.{All-from_recursion}
 use Rattle.std.proofs.lemmas.Grind.{flat_map-append}
-use Rattle.apex_base.specs.Outside.{IsFront, PutAll, PutFront}
 use Rattle.apex_world.specs.declared.calls.Call.{Call}
 use Rattle.apex_world.specs.declared.script.Lane.{Lane}
 use Rattle.apex_world.specs.declared.script.Segment.{Segment}
@@ -17,11 +15,11 @@ use Rattle.apex_world.specs.declared.script.Script.{Script}
 use Rattle.apex_world.specs.declared.turns.Fate.TheVariants.{Answered}
 use Rattle.apex_world.specs.declared.turns.TurnRow.{TurnRow}
 use Rattle.apex_world.specs.World.{World, empty_world}
-use Rattle.apex_world.specs.Fold.{Event, BootOf, CallOf, nth, call_in, event_in, event_at, turn, turned_by, turned_at, Turned}
-use Rattle.apex_world.specs.Text.{turn_lines, lines_from, end_line, out}
+use Rattle.apex_world.specs.Fold.{nth, call_in, event_in, event_at, turn, turned_by, turned_at, Turned}
+use Rattle.apex_world.specs.Text.{turn_lines, lines_from}
 use Rattle.apex_world.specs.Turns.{Position, position_of, lane_calls, call_positions, block_positions, segment_rounds, boot_rounds, rounds_from, positions, IsInOrder, Fits}
-use Rattle.apex_world.proofs.TurnLemmas.{IsFront-all, in_order, fits}
-use Rattle.device_play.specs.Run.{Planned, rows_of, planned_boot, planned_call, call_plan, block_plan, segment_plan, boot_plan, boots_plan, plan_world, plan_lines}
+use Rattle.apex_world.proofs.TurnLemmas.{in_order, fits}
+use Rattle.device_play.specs.Run.{Planned, rows_of, planned_call, call_plan, block_plan, segment_plan, boot_plan, boots_plan, plan_lines}
 use Rattle.device_play.proofs.Runs.{lanes_of}
 
 -- Positions

@@ -1,5 +1,5 @@
 -- What a run of a whole script leaves, from what a run of its plan does.
-use Rattle.std.proofs.Common.{◌≡◌, ℕ, List, [], ◌∷◌, ◌++◌, Option, Result, Ok, Err, sym, ap, ◌∙◌, subst, refl}
+use Rattle.std.proofs.Common.{◌≡◌, ℕ, List, [], ◌++◌, Option, Result, Ok, Err, sym, ap, ◌∙◌, subst}
 use Rattle.std.specs.List.{All}
 use Rattle.std.specs.Result.{IsErr}
 use Rattle.std.proofs.lemmas.List.{append-nil}
@@ -7,12 +7,12 @@ use Rattle.apex_base.specs.Outside.{PutAll, PutFront, Puts}
 use Rattle.apex_world.specs.declared.script.Script.{Script}
 use Rattle.apex_world.specs.declared.turns.Fate.TheVariants.{Answered}
 use Rattle.apex_world.specs.declared.turns.TurnRow.{TurnRow}
-use Rattle.apex_world.specs.World.{World, empty_world}
+use Rattle.apex_world.specs.World.{empty_world}
 use Rattle.apex_world.specs.Text.{lines_from, end_line, out}
 use Rattle.apex_world.specs.Turns.{IsInOrder, Fits, positions}
 use Rattle.apex_world.proofs.TurnLemmas.{IsFront-none, in_order}
 use Rattle.device_play.specs.declared.put.PutFailed.{PutFailed}
-use Rattle.device_play.specs.Played.{PlayedWhole, PlayedFront, HasPlayed}
+use Rattle.device_play.specs.Played.{PlayedFront, HasPlayed}
 use Rattle.device_play.specs.Run.{Planned, Stage, Went, Stopped, rows_of, plan_lines, boots_plan}
 use Rattle.device_play.proofs.Plans.{PlanFront, plan_front, plan_fits}
 use Rattle.device_play.proofs.Puts.{PutAll-more, PutFront-more, PutFront-front, PutFront-all, PutAll-of, PutFront-of}

@@ -1,14 +1,14 @@
 -- What a sink has gained by several puts. Callers want `put_none`, `put_more`, `put_front` and `put_exit`.
 use Rattle.std.proofs.Common.{◌≡◌, ℕ, ◌+◌, ◌<◌, ◌≤◌, suc, List, [], ◌∷◌, ◌++◌, length, take, drop, get_or, flat_map, Option, Some, None, sym, ap, subst, ◌∙◌, refl, append_assoc, add-one, arith}
-use Rattle.std.specs.Prelude.{Result, Ok, Err, IsErrOf}
+use Rattle.std.specs.Prelude.{Result, Ok, Err}
 use Rattle.std.specs.Result.{IsErrAnd}
 use Rattle.std.proofs.Math.Seq.{drop-cons}
 use Rattle.std.proofs.lemmas.List.{append-nil, take_more, take-append-drop, flat_map_more}
 use Rattle.std.proofs.lemmas.Grind.{flat_map-append}
 use Rattle.apex_base.specs.Causes.{Rose}
-use Rattle.apex_base.specs.Outside.{PutFront, PutAll, Puts}
+use Rattle.apex_base.specs.Outside.{PutFront, PutAll}
 use Rattle.device_play.specs.declared.put.PutFailed.{PutFailed}
-use Rattle.device_play.specs.declared.put.PutFailed.TheVariants.{Sink, NoMemory}
+use Rattle.device_play.specs.declared.put.PutFailed.TheVariants.{NoMemory}
 use Rattle.device_play.specs.Put.{HasSinkCause, HasPut}
 
 -- nothing was put

@@ -1,23 +1,21 @@
 -- Runs one after another. Callers want `ran_more`, `ran_front`, `ran_err` and the plans' `_next` and `_at`.
-use Rattle.std.proofs.Common.{◌≡◌, ℕ, suc, ◌+◌, ◌<◌, ◌≤◌, Bool, true, false, cond, List, [], ◌∷◌, ◌++◌, length, get_or, map, take, drop, fold, flat_map, Option, Result, Ok, Err, sym, ap, ◌∙◌, subst, refl, append_assoc, add-one, arith}
+use Rattle.std.proofs.Common.{◌≡◌, ℕ, suc, ◌+◌, ◌<◌, List, [], ◌∷◌, ◌++◌, length, get_or, take, drop, flat_map, Result, Ok, Err, sym, ap, ◌∙◌, subst, refl, append_assoc, add-one, arith}
 use Rattle.std.specs.Result.{IsErr}
 use Rattle.std.proofs.Math.Seq.{drop-cons}
-use Rattle.std.proofs.lemmas.List.{append-nil, map-append, take_more, take-append-drop, length-take-le, length-append}
+use Rattle.std.proofs.lemmas.List.{append-nil, take_more, take-append-drop, length-take-le}
 use Rattle.std.proofs.lemmas.List.Sums.{fold-append}
-use Rattle.std.proofs.lemmas.Grind.{flat_map-append}
 use Rattle.apex_world.specs.declared.calls.Call.{Call}
 use Rattle.apex_world.specs.declared.script.Lane.{Lane}
 use Rattle.apex_world.specs.declared.script.Segment.{Segment}
 use Rattle.apex_world.specs.declared.script.ScriptBoot.{ScriptBoot}
-use Rattle.apex_world.specs.declared.turns.TurnRow.{TurnRow}
 use Rattle.apex_world.specs.World.{World}
-use Rattle.apex_world.specs.Fold.{Event, turned_by}
+use Rattle.apex_world.specs.Fold.{turned_by}
 use Rattle.apex_world.specs.Text.{turn_lines}
 use Rattle.apex_world.specs.Turns.{lane_calls}
 use Rattle.apex_base.specs.Outside.{PutFront, PutAll, Puts}
 use Rattle.device_play.specs.declared.put.PutFailed.{PutFailed}
-use Rattle.device_play.specs.Run.{Planned, Stage, Went, Stopped, Ran, rows_of, plan_world, plan_lines, planned_call, planned_boot, call_plan, block_plan, segment_plan, boot_plan, boots_plan}
-use Rattle.device_play.proofs.Puts.{PutAll-none, PutFront-none, PutAll-more, PutFront-more, PutFront-all, PutAll-of, PutFront-of}
+use Rattle.device_play.specs.Run.{Planned, Stage, Went, Stopped, Ran, rows_of, plan_world, plan_lines, planned_call, call_plan, block_plan, segment_plan, boot_plan, boots_plan}
+use Rattle.device_play.proofs.Puts.{PutAll-none, PutFront-none, PutAll-more, PutFront-more, PutAll-of, PutFront-of}
 
 -- Plans
 

@@ -1,8 +1,8 @@
 -- Reads of a source, one after another.
-use Rattle.std.proofs.Common.{◌≡◌, ◌<◌, ◌≤◌, ◌+◌, ℕ, List, [], ◌∷◌, ◌++◌, length, take, Option, Some, None, Result, Ok, Err, sym, ap, ◌∙◌, subst, refl, arith, inl, inr, append_assoc}
+use Rattle.std.proofs.Common.{◌≡◌, ◌<◌, ◌≤◌, ◌+◌, ℕ, List, [], ◌++◌, length, take, Option, Some, None, Result, Ok, Err, sym, ap, ◌∙◌, refl, arith, inl, inr, append_assoc}
 use Rattle.std.specs.Prelude.{IfSome, ◌⊎◌}
 use Rattle.std.proofs.lemmas.List.{length-append, length-take-le}
-use Rattle.apex_base.specs.Outside.{Took, Takes}
+use Rattle.apex_base.specs.Outside.{Took}
 use Rattle.device_play.specs.Source.{Moved, Ended, TakesAtMost}
 
 nil_front : (rest : List ℕ) (xs : List ℕ) → xs ≡ [] → xs ≡ rest → rest ≡ []

@@ -3,6 +3,7 @@ ghost use Rattle.std.specs.Prelude.{◌≡◌, ◌++◌, codes, OnOk};
 ghost use Rattle.std.specs.Fmt.{decimal};
 ghost use Rattle.apex_world.specs.Text.{state_text, rollback_text, case_text, cause_text, cause_words, refusal_text, value_text, rollback_words, observer_text, id_words, reply_text, change_line, place_text, pick_line, loop_text, turn_mark, boot_line, reply_line, end_line};
 
+use crate::faults::push_fault;
 use apex_base::{Case, Cause, Name, Pick, Place, Refusal, RollbackState, SessionId, State};
 use apex_world::{Changed, IdList, Reply, TurnRow};
 use itoa::Buffer;
@@ -102,7 +103,7 @@ fn push_word_id(line: &mut Vec<u8>, word: &[u8], id: SessionId) -> Result<(), Al
 }
 
 /// A word with its space, and a number.
-fn push_word_number(line: &mut Vec<u8>, word: &[u8], n: u64) -> Result<(), AllocError>
+pub fn push_word_number(line: &mut Vec<u8>, word: &[u8], n: u64) -> Result<(), AllocError>
     ensures { OnOk result (line.new.items ≡ line.old.items ++ (word.now ++ decimal n)) }
 {
     line.extend_from_slice(word)?;
@@ -120,7 +121,7 @@ fn push_word_name(line: &mut Vec<u8>, word: &[u8], name: &Name) -> Result<(), Al
 }
 
 /// Two words.
-fn push_words(line: &mut Vec<u8>, word: &[u8], other: &[u8]) -> Result<(), AllocError>
+pub fn push_words(line: &mut Vec<u8>, word: &[u8], other: &[u8]) -> Result<(), AllocError>
     ensures { OnOk result (line.new.items ≡ line.old.items ++ (word.now ++ other.now)) }
 {
     line.extend_from_slice(word)?;
@@ -136,6 +137,11 @@ fn push_refusal(line: &mut Vec<u8>, refusal: &Refusal) -> Result<(), AllocError>
         Refusal::IdRange { id } => push_word_id(line, b"id-range ", *id),
         Refusal::IdTaken { id } => push_word_id(line, b"id-taken ", *id),
         Refusal::Parts { count } => push_word_number(line, b"parts ", u64::from(*count)),
+        Refusal::Module { part, fault } => {
+            push_word_number(line, b"part ", u64::from(*part))?;
+            line.extend_from_slice(b" ")?;
+            push_fault(line, fault)
+        }
         Refusal::TwiceNamed { name } => push_word_name(line, b"twice-named ", name),
         Refusal::NotPreinstalled { name } => push_word_name(line, b"not-preinstalled ", name),
         Refusal::KeyDiffers { name } => push_word_name(line, b"key-differs ", name),

@@ -1,15 +1,22 @@
 //! The world in memory, with its sessions in a list: the definitions computed as they stand.
-ghost use Rattle.std.specs.Prelude.{◌≡◌, ◌<◌, ◌^◌, ◌++◌, IfOk, OnOk, max, length, is_some};
-ghost use Rattle.std.specs.Option.{option_copied};
-ghost use Rattle.apex_world.specs.Step.{kind_of, rollback_of, parts_from, submissions_from, new_session, in_running, with_session, not_preinstalled};
+ghost use Rattle.std.specs.Prelude.{◌≡◌, ◌∷◌, [], false, IfOk, max};
+ghost use Rattle.apex_world.specs.Step.{rollback_after};
+ghost use Rattle.apex_world.specs.Soundness.{checked};
+ghost use Rattle.apex_world.specs.Submit.{new_session, package_of};
+ghost use Rattle.device_play.specs.Plain.{Judges};
 
-use crate::select::{Selection, preinstalled};
-use crate::sessions::{boot_sessions, place_of};
+use crate::limits::{units_of, weight_of};
+use crate::select::Selection;
+use crate::sessions::{boot_sessions, place_of, session_with};
+use crate::submit::{is_caller_id, is_taken, part_refusal};
 use apex_base::{
-    Kind, Listed, Millis, Module, Mounter, Move, Part, Pick, Print, Record, Refusal, RollbackState,
-    Scale, SessionId, Shared, State, Target, moved,
+    Kind, Listed, Millis, Mounter, Move, Part, Pick, Print, Record, Refusal, RollbackState, Scale,
+    SessionId, Shared, State, Target, moved,
 };
-use apex_world::{BootOrder, BootReply, Call, IdList, Image, Observer, Reply, Submission};
+use apex_manifest::ManifestWhy;
+use apex_world::{
+    BootOrder, BootReply, Call, Image, Observer, Package, Reply, SharedModule, Submission,
+};
 use std::alloc::{AllocError, Global};
 
 /// The world: `specs/Plain.antt` says which. Data, watches and failures come with the calls that make them.
@@ -26,126 +33,69 @@ pub struct PlainWorld {
     clock: Millis,
 }
 
-fn kind_of(rollback: bool) -> Kind
-    ensures { result ≡ kind_of rollback }
-{
-    if rollback {
-        Kind::WithRollback
-    } else {
-        Kind::Plain
-    }
+/// Why a submit stops before its session enters.
+pub enum Stop {
+    Refused(Refusal),
+    NoMemory,
 }
 
-fn rollback_of(rollback: bool) -> Option<RollbackState>
-    ensures { result ≡ rollback_of rollback }
-{
-    if rollback {
-        Some(RollbackState::Enabling)
-    } else {
-        None
-    }
-}
-
-fn parts_of(alloc: Global, id: SessionId, modules: &[Module]) -> Result<Vec<Part>, AllocError>
-    requires { length modules.now < 2 ^ 32 }
-    ensures { IfOk result (λ parts. parts.items ≡ parts_from id 0 modules.now) }
-{
-    let mut parts = Vec::new(alloc);
-    let mut number = 0;
-    for m in modules {
-        parts.push(Part {
-            name: m.name,
-            version: Some(m.version),
-            target: Target::Module {
-                session: id,
-                part: number,
-                version: m.version,
-            },
-        })?;
-        number += 1;
-    }
-    Ok(parts)
-}
-
-fn add_submissions(
-    submissions: &mut Vec<Submission>,
-    id: SessionId,
-    modules: &[Module],
-) -> Result<(), AllocError>
-    requires { length modules.now < 2 ^ 32 }
-    ensures { OnOk result (submissions.new.items ≡ submissions.old.items ++ submissions_from id 0 modules.now) }
-{
-    let mut number = 0;
-    for m in modules {
-        submissions.push(Submission {
-            session: id,
-            part: number,
-            content: *m,
-        })?;
-        number += 1;
-    }
-    Ok(())
-}
-
-fn copy_ids(alloc: Global, ids: &[SessionId]) -> Result<Vec<SessionId>, AllocError>
-    ensures { IfOk result (λ copy. copy.items ≡ ids.now) }
-{
-    ids.to_vec(alloc)
-}
-
-fn new_session(
+/// The session of a plain submit of one part.
+fn plain_session(
     alloc: Global,
     id: SessionId,
-    children: &[SessionId],
-    rollback: bool,
-    modules: &[Module],
+    p: &Package,
     print: &Print,
 ) -> Result<Record, AllocError>
-    requires { length modules.now < 2 ^ 32 }
-    ensures { IfOk result (λ r. r ≡ new_session id children.now rollback modules.now print.now) }
+    ensures { IfOk result (λ r. r ≡ new_session id [] false (p.now ∷ []) print.now) }
 {
+    let part = Part {
+        name: p.name,
+        version: Some(p.version),
+        target: Target::Module {
+            session: id,
+            part: 0,
+            version: p.version,
+        },
+    };
     Ok(Record {
         id,
-        children: Listed::of(copy_ids(alloc, children)?),
-        kind: kind_of(rollback),
-        parts: Listed::of(parts_of(alloc, id, modules)?),
+        children: Listed::new(alloc),
+        kind: Kind::Plain,
+        parts: Listed::one(alloc, part)?,
         print: *print,
         state: State::Verified,
         cause: None,
         activation: 0,
-        rollback: rollback_of(rollback),
+        rollback: None,
         moment: Millis::zero(),
     })
 }
 
-fn put_session(sessions: &mut Vec<Record>, session: Record) -> Result<(), AllocError>
-    ensures { OnOk result (sessions.new.items ≡ with_session session sessions.old.items) }
+/// The part with its name and version, where its module is sound.
+fn packaged(alloc: Global, part: &SharedModule) -> Result<Package, Stop>
+    ensures { Judges result (package_of 1 part.now (checked part.now)) }
 {
-    match place_of(sessions, session.id) {
-        Ok(i) => sessions[i] = session,
-        Err(i) => sessions.insert(i, session)?,
+    match part.check(alloc) {
+        Ok(manifest) => match part.share() {
+            Ok(content) => Ok(Package {
+                name: manifest.name,
+                version: manifest.version,
+                content,
+            }),
+            Err(_) => Err(Stop::NoMemory),
+        },
+        Err(ManifestWhy::Fault(fault)) => Err(Stop::Refused(Refusal::Module { part: 1, fault })),
+        Err(ManifestWhy::NoMemory) => Err(Stop::NoMemory),
     }
-    Ok(())
 }
 
-fn in_running<'a>(image: &'a Option<Shared<Image>>, m: &Module) -> bool
-    ensures { result ≡ is_some (in_running image.now m.now.name) }
+fn rollback_after(step: Move, rollback: Option<RollbackState>) -> Option<RollbackState>
+    ensures { result ≡ rollback_after step rollback }
 {
-    match image {
-        None => false,
-        Some(image) => preinstalled(image.get().modules.as_slice(), &m.name).is_some(),
+    match (step, rollback) {
+        (Move::Abort, Some(RollbackState::Enabling)) => Some(RollbackState::Deleted),
+        _ => rollback,
     }
-}
-
-fn not_preinstalled<'a>(image: &Option<Shared<Image>>, parts: &'a [Module]) -> Option<&'a Module>
-    ensures { option_copied result ≡ not_preinstalled image.now parts.now }
-{
-    for m in parts {
-        if !in_running(image, m) {
-            return Some(m);
-        }
-    }
-    None
 }
 
 fn later_of(a: Millis, b: Millis) -> Millis
@@ -155,17 +105,21 @@ fn later_of(a: Millis, b: Millis) -> Millis
 }
 
 impl PlainWorld {
-    ghost use Rattle.std.specs.Prelude.{◌≡◌, ◌+◌, ◌<◌, ◌^◌, IfOk, OnOk, length};
+    ghost use Rattle.std.specs.Prelude.{◌≡◌, ◌+◌, ◌-◌, ◌<◌, ◌^◌, ◌∷◌, [], false, take, IfOk, IsOk, IsSome, OnOk, length};
+    ghost use Rattle.std.specs.List.{remove};
     ghost use Rattle.apex_world.specs.Boot.{boot_world, boot_reply};
+    ghost use Rattle.apex_world.specs.Limits.{units_of};
     ghost use Rattle.apex_world.specs.Playable.{IsBuilt};
-    ghost use Rattle.apex_world.specs.Step.{submit, move_session, step};
+    ghost use Rattle.apex_world.specs.Step.{submit, move_session, state_of, step};
+    ghost use Rattle.apex_world.specs.Submit.{is_taken, admitted, entered, or_else, sessions_full, store_full};
     ghost use Rattle.apex_world.specs.World.{empty_world};
-    ghost use Rattle.device_play.specs.Plain.{world_of};
+    ghost use Rattle.device_play.specs.Plain.{world_of, Admits, Fits, HasRoom};
 
     /// Before the first boot.
     pub fn new(alloc: Global, scale: Scale) -> Self
         ensures world { world_of result ≡ empty_world scale }
         ensures boots { result.boots ≡ 0 }
+        ensures fits { Fits result }
     {
         PlainWorld {
             scale,
@@ -187,10 +141,12 @@ impl PlainWorld {
         order: &BootOrder,
         mounter: &M,
     ) -> Result<BootReply, AllocError>
-        requires { self.old.boots + 1 < 2 ^ 32 }
+        requires few { self.old.boots + 1 < 2 ^ 32 }
+        requires fits { Fits self.old }
         ensures reply { IfOk result (λ reply. reply ≡ boot_reply (world_of self.old) order.now (M.mounting mounter.now)) }
         ensures world { OnOk result (world_of self.new ≡ boot_world (world_of self.old) order.now (M.mounting mounter.now)) }
         ensures boots { OnOk result (self.new.boots ≡ self.old.boots + 1) }
+        ensures fits { OnOk result (Fits self.new) }
     {
         let number = self.boots + 1;
         let image = order.image.get();
@@ -217,66 +173,170 @@ impl PlainWorld {
 
     /// A call. A refusal changes nothing; after want of memory the world is of no use.
     pub fn act(&mut self, alloc: Global, call: &Call) -> Result<Reply, AllocError>
-        requires { IsBuilt call.now }
+        requires built { IsBuilt call.now }
+        requires fits { Fits self.old }
         ensures reply { IfOk result (λ reply. reply ≡ (step (world_of self.old) call.now).reply) }
         ensures world { OnOk result (world_of self.new ≡ (step (world_of self.old) call.now).world) }
         ensures boots { self.new.boots ≡ self.old.boots }
+        ensures fits { OnOk result (Fits self.new) }
     {
         match call {
-            Call::Submit {
-                id,
-                children,
-                rollback,
-                parts,
-            } => self.submit(alloc, *id, children, *rollback, parts.as_slice()),
+            Call::Submit { id, parts, .. } => match parts.as_slice() {
+                [part] => self.submit(alloc, *id, part),
+                _ => unreachable!(),
+            },
             Call::Ready { id } => Ok(self.advance(self.clock, *id, Move::Ready)),
+            Call::Abort { id } => Ok(self.advance(self.clock, *id, Move::Abort)),
             Call::Success { time, id } => {
                 let clock = later_of(self.clock, *time);
                 Ok(self.advance(clock, *id, Move::Success))
             }
-            Call::Abort { .. }
-            | Call::Revert
+            Call::StateOf { id } => Ok(self.state_of(*id)),
+            Call::Revert
             | Call::Commit { .. }
             | Call::Put { .. }
             | Call::Drop { .. }
             | Call::Get { .. }
-            | Call::StateOf { .. }
             | Call::Watch { .. }
             | Call::Report { .. } => unreachable!(),
         }
     }
 
+    /// A plain submit of one part.
     fn submit(
         &mut self,
         alloc: Global,
         id: SessionId,
-        children: &IdList,
-        rollback: bool,
-        parts: &[Module],
+        part: &SharedModule,
     ) -> Result<Reply, AllocError>
-        requires { length parts.now < 2 ^ 32 }
-        ensures reply { IfOk result (λ reply. reply ≡ (submit (world_of self.old) id children.now rollback parts.now).reply) }
-        ensures world { OnOk result (world_of self.new ≡ (submit (world_of self.old) id children.now rollback parts.now).world) }
+        requires { Fits self.old }
+        ensures reply { IfOk result (λ reply. reply ≡ (submit (world_of self.old) id [] false (part.now ∷ [])).reply) }
+        ensures world { OnOk result (world_of self.new ≡ (submit (world_of self.old) id [] false (part.now ∷ [])).world) }
+        ensures boots { self.new.boots ≡ self.old.boots }
+        ensures fits { OnOk result (Fits self.new) }
+    {
+        let p = match self.admit(alloc, id, part) {
+            Ok(p) => p,
+            Err(Stop::Refused(refusal)) => return Ok(Reply::Refused(refusal)),
+            Err(Stop::NoMemory) => return Err(AllocError),
+        };
+        let place = self.enter(alloc, id, p)?;
+        if let Some(refusal) = self.over_scale(alloc)? {
+            self.leave(place);
+            return Ok(Reply::Refused(refusal));
+        }
+        Ok(Reply::Done)
+    }
+
+    /// The new session and its module enter. The place of the session among the others.
+    fn enter(&mut self, alloc: Global, id: SessionId, p: Package) -> Result<usize, AllocError>
+        requires free { is_taken self.old.sessions.items id ≡ false }
+        requires runs { IsSome self.old.image }
+        ensures world { OnOk result (world_of self.new ≡ entered (world_of self.old) id [] false (p ∷ [])) }
+        ensures place { IfOk result (λ i. HasRoom i self.old self.new) }
         ensures boots { self.new.boots ≡ self.old.boots }
     {
-        if let Some(m) = not_preinstalled(&self.image, parts) {
-            return Ok(Reply::Refused(Refusal::NotPreinstalled { name: m.name }));
-        }
         let Some(image) = &self.image else {
-            return Ok(Reply::Done);
+            unreachable!()
         };
-        let print = image.get().print;
-        let session = new_session(alloc, id, children.as_slice(), rollback, parts, &print)?;
-        put_session(&mut self.sessions, session)?;
-        add_submissions(&mut self.modules, id, parts)?;
-        Ok(Reply::Done)
+        let session = plain_session(alloc, id, &p, &image.get().print)?;
+        let Err(place) = place_of(&self.sessions, id) else {
+            unreachable!()
+        };
+        self.sessions.insert(place, session)?;
+        self.modules.push(Submission {
+            session: id,
+            part: 0,
+            content: p,
+        })?;
+        Ok(place)
+    }
+
+    fn sessions_full(&self) -> Option<Refusal>
+        requires { units_of self.now.sessions.items < 2 ^ 32 }
+        ensures { result ≡ sessions_full (world_of self.now) }
+    {
+        let units = units_of(&self.sessions);
+        if units > self.scale.units() {
+            Some(Refusal::SessionsFull { units })
+        } else {
+            None
+        }
+    }
+
+    fn store_full(&self, alloc: Global) -> Result<Option<Refusal>, AllocError>
+        requires { length self.now.modules.items < 2 ^ 32 }
+        ensures { IfOk result (λ refusal. refusal ≡ store_full (world_of self.now)) }
+    {
+        let weight = weight_of(alloc, &self.sessions, &self.modules)?;
+        if weight > self.scale.file_weight() {
+            Ok(Some(Refusal::StoreFull { weight }))
+        } else {
+            Ok(None)
+        }
+    }
+
+    /// Why the world is over its scale, if it is.
+    fn over_scale(&self, alloc: Global) -> Result<Option<Refusal>, AllocError>
+        requires units { units_of self.now.sessions.items < 2 ^ 32 }
+        requires modules { length self.now.modules.items < 2 ^ 32 }
+        ensures { IfOk result (λ refusal. refusal ≡ or_else (sessions_full (world_of self.now)) (store_full (world_of self.now))) }
+    {
+        match self.sessions_full() {
+            Some(refusal) => Ok(Some(refusal)),
+            None => self.store_full(alloc),
+        }
+    }
+
+    /// The session at a place and the last module leave.
+    fn leave(&mut self, place: usize)
+        requires { place < length self.old.sessions.items }
+        ensures world { world_of self.new ≡ record (world_of self.old) { sessions = remove self.old.sessions.items place; modules = take (length self.old.modules.items - 1) self.old.modules.items } }
+        ensures boots { self.new.boots ≡ self.old.boots }
+    {
+        self.sessions.remove(place);
+        self.modules.pop();
+    }
+
+    /// The part with its name and version, or the first refusal that needs no session.
+    fn admit(&self, alloc: Global, id: SessionId, part: &SharedModule) -> Result<Package, Stop>
+        ensures admitted { Admits result (admitted (world_of self.now) id [] (part.now ∷ [])) }
+        ensures free { IsOk result → is_taken self.now.sessions.items id ≡ false }
+        ensures runs { IsOk result → IsSome self.now.image }
+    {
+        if !is_caller_id(id) {
+            return Err(Stop::Refused(Refusal::IdRange { id }));
+        }
+        if is_taken(&self.sessions, id) {
+            return Err(Stop::Refused(Refusal::IdTaken { id }));
+        }
+        let p = match packaged(alloc, part) {
+            Ok(p) => p,
+            Err(stop) => return Err(stop),
+        };
+        match part_refusal(&self.image, &self.sessions, &self.active, &p) {
+            Some(refusal) => Err(Stop::Refused(refusal)),
+            None => Ok(p),
+        }
+    }
+
+    /// The session of an id, or of a child's id.
+    fn state_of(&self, id: SessionId) -> Reply
+        ensures { result ≡ (state_of (world_of self.now) id).reply }
+    {
+        match session_with(&self.sessions, id) {
+            None => Reply::Refused(Refusal::NoSession { id }),
+            Some(r) => Reply::State(r.state, r.rollback),
+        }
     }
 
     /// Moves the session of an id, and raises the clock to a moment.
     fn advance(&mut self, clock: Millis, id: SessionId, step: Move) -> Reply
+        requires { Fits self.old }
         ensures reply { result ≡ (move_session (world_of self.old) clock id step).reply }
         ensures world { world_of self.new ≡ (move_session (world_of self.old) clock id step).world }
         ensures boots { self.new.boots ≡ self.old.boots }
+        ensures fits { Fits self.new }
     {
         let Ok(i) = place_of(&self.sessions, id) else {
             return Reply::Refused(Refusal::NoSession { id });
@@ -285,7 +345,9 @@ impl PlainWorld {
         match moved(state, step) {
             None => Reply::Refused(Refusal::BadState { state }),
             Some(state) => {
-                self.sessions[i].state = state;
+                let r = &mut self.sessions[i];
+                r.state = state;
+                r.rollback = rollback_after(step, r.rollback);
                 self.clock = clock;
                 Reply::Done
             }

@@ -1,84 +1,50 @@
-//! Which target a name holds, why a part doesn't work, and what a boot chooses: `docs/boot.md`, "Selection".
-ghost use Rattle.std.specs.Prelude.{◌≡◌, ◌≤◌, IfOk, OnOk, find, insert, length};
+//! Why a part doesn't work, and what a boot chooses: `docs/boot.md`, "Selection".
+ghost use Rattle.std.specs.Prelude.{◌≡◌, ◌≤◌, ◌==◌, ◌&&◌, IfOk, OnOk, find, insert, length};
 ghost use Rattle.std.specs.Option.{option_copied};
-ghost use Rattle.std.specs.Str.{bytes_eq};
 ghost use Rattle.std.specs.Ordering.{is_lt, nat_cmp};
 ghost use Rattle.std.specs.Cmp.Lexicographic.{slice_cmp};
-ghost use Rattle.apex_base.specs.Held.{is_standing, candidate, later, held};
-ghost use Rattle.apex_world.specs.Selection.{preinstalled, preinstalled_case, target_case, case_of, cause_of, fallback, choice, pick_of, with_pick, chosen};
+ghost use Rattle.apex_world.specs.Selection.{preinstalled, submitted_by, preinstalled_case, data_case, submitted_case, target_case, case_of, cause_of, fallback, choice, pick_of, with_pick, chosen};
 
+use crate::kept::held;
 use apex_base::{
-    Case, Cause, Module, Mounter, Name, Part, Pick, Place, Record, State, Target, Version,
+    Case, Cause, Mounter, Name, Part, Pick, Place, Record, SessionId, Target, Version,
 };
-use apex_world::Submission;
+use apex_world::{Package, Submission};
 use std::alloc::{AllocError, Global};
 
 /// The module of a name among those of an image.
-pub fn preinstalled<'a>(modules: &'a [Module], name: &Name) -> Option<&'a Module>
+pub fn preinstalled<'a>(modules: &'a [Package], name: &Name) -> Option<&'a Package>
     ensures { option_copied result ≡ preinstalled modules.now name.now }
 {
     modules.iter().find(|m| m.name.is_same(name))
 }
 
-fn is_standing(state: State) -> bool
-    ensures { result ≡ is_standing state }
+fn submission_of<'a>(
+    modules: &'a [Submission],
+    session: SessionId,
+    part: u32,
+) -> Option<&'a Submission>
+    ensures { option_copied result ≡ find (λ s. (s.session.0 == session.0) && (s.part == part)) modules.now }
 {
-    match state {
-        State::Activated | State::Success | State::RevertInProgress => true,
-        State::Verified
-        | State::Staged
-        | State::ActivationFailed
-        | State::Reverted
-        | State::Aborted => false,
-    }
+    modules
+        .iter()
+        .find(|s| s.session.0 == session.0 && s.part == part)
 }
 
-fn part_of<'a>(parts: &'a [Part], name: &Name) -> Option<&'a Part>
-    ensures { option_copied result ≡ find (λ p. bytes_eq p.name name.now) parts.now }
+/// The module that a part of a session submitted.
+fn submitted_by<'a>(modules: &'a [Submission], session: SessionId, part: u32) -> Option<&'a Package>
+    ensures { option_copied result ≡ submitted_by modules.now session part }
 {
-    parts.iter().find(|p| p.name.is_same(name))
-}
-
-/// The activation boot and the target that a session has for a name, where its modules stand.
-fn candidate(name: &Name, r: &Record) -> Option<(u32, Target)>
-    ensures { result ≡ candidate (is_standing r.now.state) name.now r.now }
-{
-    if !is_standing(r.state) {
-        return None;
-    }
-    match part_of(r.parts.as_slice(), name) {
-        Some(p) => Some((r.activation, p.target)),
+    match submission_of(modules, session, part) {
         None => None,
-    }
-}
-
-fn later(best: Option<(u32, Target)>, other: Option<(u32, Target)>) -> Option<(u32, Target)>
-    ensures { result ≡ later best other }
-{
-    match (best, other) {
-        (_, None) => best,
-        (None, Some(_)) => other,
-        (Some(b), Some(c)) => { if b.0 < c.0 { other } else { best } }
-    }
-}
-
-fn held(sessions: &[Record], name: &Name) -> Target
-    ensures { result ≡ held sessions.now name.now }
-{
-    let mut best = None;
-    for r in sessions {
-        best = later(best, candidate(name, r));
-    }
-    match best {
-        None => Target::Preinstalled,
-        Some(c) => c.1,
+        Some(s) => Some(&s.content),
     }
 }
 
 fn is_before(a: &Pick, b: &Pick) -> bool
     ensures { result ≡ is_lt (slice_cmp nat_cmp a.now.name b.now.name) }
 {
-    a.name.order(&b.name).is_lt()
+    a.name.cmp(&b.name).is_lt()
 }
 
 fn place_for(picks: &[Pick], p: &Pick) -> usize
@@ -105,86 +71,126 @@ fn put_pick(picks: &mut Vec<Pick>, p: Pick) -> Result<(), AllocError>
 pub struct Selection<'a, M: Mounter> {
     pub mounter: &'a M,
     pub modules: &'a [Submission],
-    pub image: &'a [Module],
+    pub image: &'a [Package],
 }
 
 impl<'a, M: Mounter> Selection<'a, M> {
-    fn preinstalled_case(&self, m: &Module) -> Option<Case>
-        ensures { result ≡ preinstalled_case (M.mounting self.now.mounter.now) m.now }
+    fn preinstalled_case(&self, alloc: Global, m: &Package) -> Result<Option<Case>, AllocError>
+        ensures { IfOk result (λ case. case ≡ preinstalled_case (M.mounting self.now.mounter.now) m.now) }
     {
+        if !m.content.is_sound(alloc)? {
+            return Ok(Some(Case::Unsound));
+        }
         if self.mounter.mounts(&m.name, m.version, Place::Pre) {
-            None
+            Ok(None)
         } else {
-            Some(Case::NoMount)
+            Ok(Some(Case::NoMount))
         }
     }
 
-    fn target_case(&self, target: &Target, m: &Module) -> Option<Case>
-        ensures { result ≡ target_case (M.mounting self.now.mounter.now) self.now.modules.now target.now m.now }
+    fn data_case(
+        &self,
+        alloc: Global,
+        given: &Package,
+        version: Version,
+        m: &Package,
+    ) -> Result<Option<Case>, AllocError>
+        ensures { IfOk result (λ case. case ≡ data_case (M.mounting self.now.mounter.now) given.now version m.now) }
     {
-        let Target::Module { version, .. } = target else {
-            return self.preinstalled_case(m);
-        };
-        if *version < m.version {
-            return Some(Case::BelowPreinstalled);
+        if version < m.version {
+            return Ok(Some(Case::BelowPreinstalled));
         }
-        if self.mounter.mounts(&m.name, *version, Place::Data) {
-            None
+        if !given.content.has_key_of(&m.content) {
+            return Ok(Some(Case::KeyDiffers));
+        }
+        if !given.content.is_sound(alloc)? {
+            return Ok(Some(Case::Unsound));
+        }
+        if self.mounter.mounts(&m.name, version, Place::Data) {
+            Ok(None)
         } else {
-            Some(Case::NoMount)
+            Ok(Some(Case::NoMount))
         }
     }
 
-    fn case_of(&self, p: &Part) -> Option<Case>
-        ensures { result ≡ case_of (M.mounting self.now.mounter.now) self.now.modules.now self.now.image.now p.now }
+    fn target_case(
+        &self,
+        alloc: Global,
+        target: &Target,
+        m: &Package,
+    ) -> Result<Option<Case>, AllocError>
+        ensures { IfOk result (λ case. case ≡ target_case (M.mounting self.now.mounter.now) self.now.modules.now target.now m.now) }
+    {
+        let Target::Module {
+            session,
+            part,
+            version,
+        } = target
+        else {
+            return self.preinstalled_case(alloc, m);
+        };
+        match submitted_by(self.modules, *session, *part) {
+            None => Ok(Some(Case::Unsound)),
+            Some(given) => self.data_case(alloc, given, *version, m),
+        }
+    }
+
+    fn case_of(&self, alloc: Global, p: &Part) -> Result<Option<Case>, AllocError>
+        ensures { IfOk result (λ case. case ≡ case_of (M.mounting self.now.mounter.now) self.now.modules.now self.now.image.now p.now) }
     {
         match preinstalled(self.image, &p.name) {
-            None => Some(Case::NotInImage),
-            Some(m) => self.target_case(&p.target, m),
+            None => Ok(Some(Case::NotInImage)),
+            Some(m) => self.target_case(alloc, &p.target, m),
         }
     }
 
     /// Why a session with these parts doesn't work; None where it does.
-    pub fn cause_of(&self, parts: &[Part]) -> Option<Cause>
-        ensures { result ≡ cause_of (M.mounting self.now.mounter.now) self.now.modules.now self.now.image.now parts.now }
+    pub fn cause_of(&self, alloc: Global, parts: &[Part]) -> Result<Option<Cause>, AllocError>
+        ensures { IfOk result (λ cause. cause ≡ cause_of (M.mounting self.now.mounter.now) self.now.modules.now self.now.image.now parts.now) }
     {
         for p in parts {
-            if let Some(case) = self.case_of(p) {
-                return Some(Cause::Part { name: p.name, case });
+            if let Some(case) = self.case_of(alloc, p)? {
+                return Ok(Some(Cause::Part { name: p.name, case }));
             }
         }
-        None
+        Ok(None)
     }
 
-    fn fallback(&self, m: &Module) -> Option<(Version, Place)>
-        ensures { result ≡ fallback (M.mounting self.now.mounter.now) m.now }
+    fn fallback(&self, alloc: Global, m: &Package) -> Result<Option<(Version, Place)>, AllocError>
+        ensures { IfOk result (λ chosen. chosen ≡ fallback (M.mounting self.now.mounter.now) m.now) }
     {
-        match self.preinstalled_case(m) {
-            None => Some((m.version, Place::Pre)),
-            Some(_) => None,
+        match self.preinstalled_case(alloc, m)? {
+            None => Ok(Some((m.version, Place::Pre))),
+            Some(_) => Ok(None),
         }
     }
 
-    fn choice(&self, target: &Target, m: &Module) -> Option<(Version, Place)>
-        ensures { result ≡ choice (M.mounting self.now.mounter.now) self.now.modules.now target.now m.now }
+    fn choice(
+        &self,
+        alloc: Global,
+        target: &Target,
+        m: &Package,
+    ) -> Result<Option<(Version, Place)>, AllocError>
+        ensures { IfOk result (λ chosen. chosen ≡ choice (M.mounting self.now.mounter.now) self.now.modules.now target.now m.now) }
     {
         let Target::Module { version, .. } = target else {
-            return self.fallback(m);
+            return self.fallback(alloc, m);
         };
-        match self.target_case(target, m) {
-            None => Some((*version, Place::Data)),
-            Some(_) => self.fallback(m),
+        match self.target_case(alloc, target, m)? {
+            None => Ok(Some((*version, Place::Data))),
+            Some(_) => self.fallback(alloc, m),
         }
     }
 
-    fn pick(&self, sessions: &[Record], m: &Module) -> Pick
-        ensures { result ≡ pick_of (M.mounting self.now.mounter.now) self.now.modules.now sessions.now m.now }
+    fn pick(&self, alloc: Global, sessions: &[Record], m: &Package) -> Result<Pick, AllocError>
+        ensures { IfOk result (λ pick. pick ≡ pick_of (M.mounting self.now.mounter.now) self.now.modules.now sessions.now m.now) }
     {
         let target = held(sessions, &m.name);
-        Pick {
+        let chosen = self.choice(alloc, &target, m)?;
+        Ok(Pick {
             name: m.name,
-            chosen: self.choice(&target, m),
-        }
+            chosen,
+        })
     }
 
     /// What is chosen for each name of the image, ascending by name.
@@ -193,7 +199,8 @@ impl<'a, M: Mounter> Selection<'a, M> {
     {
         let mut picks = Vec::new(alloc);
         for m in self.image {
-            put_pick(&mut picks, self.pick(sessions, m))?;
+            let pick = self.pick(alloc, sessions, m)?;
+            put_pick(&mut picks, pick)?;
         }
         Ok(picks)
     }

@@ -1,14 +1,16 @@
 //! What a boot makes of each session, and sessions in a list that ascends by id: `docs/boot.md`, "Steps".
-ghost use Rattle.std.specs.Prelude.{◌≡◌, ◌≤◌, ◌<◌, ◌++◌, map, is_some, length, slice_get, slice_set, insert, Some, None, IfOk, OnOk, MatchResult};
+ghost use Rattle.std.specs.Prelude.{◌≡◌, ◌≤◌, ◌<◌, ◌++◌, find, map, is_some, length, slice_get, slice_set, insert, Some, None, IfOk, OnOk, MatchResult};
 ghost use Rattle.std.specs.List.{list_all};
+ghost use Rattle.std.specs.Option.{option_copied};
 ghost use Rattle.apex_base.specs.declared.records.Record.{Record};
 ghost use Rattle.apex_world.specs.Selection.{preinstalled};
 ghost use Rattle.apex_world.specs.Boot.{ended, reverted, given_up, keeps_rollback, rebuilt_in, rebuilt, activated, booted, changed_to, changes};
-ghost use Rattle.apex_world.specs.Step.{session_of, with_session};
+ghost use Rattle.apex_world.specs.Sessions.{has_id, session_of, with_session};
 
 use crate::select::{Selection, preinstalled};
-use apex_base::{Cause, Module, Mounter, Part, Record, RollbackState, SessionId, State};
-use apex_world::{Changed, Image};
+use crate::submit::has_id;
+use apex_base::{Cause, Mounter, Part, Record, RollbackState, SessionId, State};
+use apex_world::{Changed, Image, Package};
 use std::alloc::{AllocError, Global};
 
 fn end(r: &mut Record, state: State, cause: Cause)
@@ -44,7 +46,7 @@ fn given_up(rollback: Option<RollbackState>) -> Option<RollbackState>
     }
 }
 
-fn has_all_names(image: &[Module], parts: &[Part]) -> bool
+fn has_all_names(image: &[Package], parts: &[Part]) -> bool
     ensures { result ≡ list_all (λ p. is_some (preinstalled image.now p.name)) parts.now }
 {
     parts.iter().all(|p| preinstalled(image, &p.name).is_some())
@@ -78,17 +80,23 @@ fn rebuild(r: &mut Record, image: &Image)
     }
 }
 
-fn activate<M: Mounter>(r: &mut Record, selection: &Selection<M>, image: &Image, number: u32)
+fn activate<M: Mounter>(
+    alloc: Global,
+    r: &mut Record,
+    selection: &Selection<M>,
+    image: &Image,
+    number: u32,
+) -> Result<(), AllocError>
     requires { selection.now.image.now ≡ image.now.modules }
-    ensures { r.new ≡ activated (M.mounting selection.now.mounter.now) selection.now.modules.now image.now number r.old }
+    ensures { OnOk result (r.new ≡ activated (M.mounting selection.now.mounter.now) selection.now.modules.now image.now number r.old) }
 {
     match r.state {
         State::Staged => {
             if !r.print.is_same(&image.print) {
                 end(r, State::ActivationFailed, Cause::OtherBuild);
-                return;
+                return Ok(());
             }
-            match selection.cause_of(r.parts.as_slice()) {
+            match selection.cause_of(alloc, r.parts.as_slice())? {
                 None => {
                     r.state = State::Activated;
                     r.activation = number;
@@ -97,7 +105,7 @@ fn activate<M: Mounter>(r: &mut Record, selection: &Selection<M>, image: &Image,
             }
         }
         State::Activated => {
-            if let Some(cause) = selection.cause_of(r.parts.as_slice()) {
+            if let Some(cause) = selection.cause_of(alloc, r.parts.as_slice())? {
                 end(r, State::Reverted, cause);
             }
         }
@@ -108,9 +116,11 @@ fn activate<M: Mounter>(r: &mut Record, selection: &Selection<M>, image: &Image,
         | State::Reverted
         | State::Aborted => {}
     }
+    Ok(())
 }
 
 fn boot_session<M: Mounter>(
+    alloc: Global,
     r: &mut Record,
     selection: &Selection<M>,
     image: &Image,
@@ -124,7 +134,7 @@ fn boot_session<M: Mounter>(
     let before = r.state;
     revert(r);
     rebuild(r, image);
-    activate(r, selection, image, number);
+    activate(alloc, r, selection, image, number)?;
     if before.number() != r.state.number() {
         changed.push(Changed {
             id: r.id,
@@ -149,7 +159,7 @@ pub fn boot_sessions<M: Mounter>(
 {
     let mut changed = Vec::new(alloc);
     for r in sessions.iter_mut() {
-        boot_session(r, selection, image, number, &mut changed)?;
+        boot_session(alloc, r, selection, image, number, &mut changed)?;
     }
     Ok(changed)
 }
@@ -171,4 +181,11 @@ pub fn place_of(sessions: &[Record], id: SessionId) -> Result<usize, usize>
         return if r.id.0 == id.0 { Ok(i) } else { Err(i) };
     }
     Err(sessions.len())
+}
+
+/// The session that has an id, or whose child has it.
+pub fn session_with<'a>(sessions: &'a [Record], id: SessionId) -> Option<&'a Record>
+    ensures { option_copied result ≡ find (has_id id) sessions.now }
+{
+    sessions.iter().find(|r| has_id(id, r))
 }

@@ -16,7 +16,7 @@ fn one(alloc: Global, n: u64) -> Result<Vec<u64>, Fail> {
 }
 
 /// Plays a script, with a read and a put of these numbers that fail; 0 stands for none.
-fn play(
+pub fn play(
     alloc: Global,
     command: &str,
     script: &str,
@@ -56,10 +56,10 @@ fn scripts_give_their_texts(rt: HostRuntime) -> Result<(), Fail> {
             "scale small\nimage P\npre a@5\nboot 0 1\nsubmit 1 plain a@5\nready 1\nready 1\nboot 1 1\nsuccess 1 1\nsuccess 2 1\n",
             "1.0.0 boot 1\nactive a 5 pre\n1.0.1 ok\n1.0.2 ok\n1.0.3 ok\n2.0.0 boot 2\nsession 1 ACTIVATED\nactive a 5 data\n2.0.1 ok\n2.0.2 ok\nend 7\n",
         ),
-        // A lower version fails at the boot. Comments, carriage returns and spaces are passed over.
+        // A lower version is refused. Comments, carriage returns and spaces are passed over.
         (
             "# a lower version\r\nscale small\nimage P\n\n pre  b@5 \npre a@1\nboot 0 1\nsubmit 1 plain b@4\nready 1\nboot 1 1",
-            "1.0.0 boot 1\nactive a 1 pre\nactive b 5 pre\n1.0.1 ok\n1.0.2 ok\n2.0.0 boot 2\nsession 1 ACTIVATION_FAILED part b below-preinstalled\nactive a 1 pre\nactive b 5 pre\nend 4\n",
+            "1.0.0 boot 1\nactive a 1 pre\nactive b 5 pre\n1.0.1 refused downgrade b 5 4\n1.0.2 refused no-session 1\n2.0.0 boot 2\nactive a 1 pre\nactive b 5 pre\nend 4\n",
         ),
     ];
     for (script, text) in cases {
@@ -72,11 +72,11 @@ fn scripts_give_their_texts(rt: HostRuntime) -> Result<(), Fail> {
 
 #[test]
 fn examples_give_their_texts(rt: HostRuntime) -> Result<(), Fail> {
-    // The files of `examples/`; the fourth is the program's stored run.
+    // The files of `examples/`; the fifth is the program's stored run.
     let cases = [
         (
-            "# A version below the preinstalled one. The submit is accepted and the session is made ready, but the next boot\n# finds that its part doesn't work: the session fails, and the preinstalled module stays active.\nscale small\nimage S1B2\npre com.android.media@310200000\nboot 1000 1\nsubmit 102 plain com.android.media@310000000\nready 102\nboot 100000 1\n# The session has ended, so it can't be marked successful.\nsuccess 160000 102\n",
-            "1.0.0 boot 1\nactive com.android.media 310200000 pre\n1.0.1 ok\n1.0.2 ok\n2.0.0 boot 2\nsession 102 ACTIVATION_FAILED part com.android.media below-preinstalled\nactive com.android.media 310200000 pre\n2.0.1 refused bad-state ACTIVATION_FAILED\nend 5\n",
+            "# A version below the active one. The submit is refused, and tells the active version and the given one. So there is\n# no session to make ready, the next boot tells of none, and the preinstalled module stays active.\nscale small\nimage S1B2\npre com.android.media@310200000\nboot 1000 1\nsubmit 102 plain com.android.media@310000000\nready 102\nboot 100000 1\n# Nor is there one to be marked successful.\nsuccess 160000 102\n",
+            "1.0.0 boot 1\nactive com.android.media 310200000 pre\n1.0.1 refused downgrade com.android.media 310200000 310000000\n1.0.2 refused no-session 102\n2.0.0 boot 2\nactive com.android.media 310200000 pre\n2.0.1 refused no-session 102\nend 5\n",
         ),
         (
             "# Calls that are refused because of the session that they name. A refusal changes nothing.\nscale small\nimage S1B2\npre com.android.tzdata@310000000\nboot 1000 1\n# No session was submitted yet.\nready 103\nsubmit 103 plain com.android.tzdata@310200000\n# The session is VERIFIED: no boot has activated it.\nsuccess 2000 103\n# No session has this id.\nready 104\nsuccess 3000 104\nready 103\nboot 100000 1\n# The session is ACTIVATED: there is nothing left to make ready.\nready 103\nsuccess 160000 103\n# It is SUCCESS now. Success is accepted again, ready isn't.\nsuccess 170000 103\nready 103\n",
@@ -85,6 +85,10 @@ fn examples_give_their_texts(rt: HostRuntime) -> Result<(), Fail> {
         (
             "# A submit of a name that the running image lacks is refused, and no session is made.\nscale small\nimage S1B2\npre com.android.tzdata@310000000\nboot 1000 1\nsubmit 104 plain com.android.media@310200000\nready 104\n# The module joins the image, but the image that runs is still that of the last boot.\npre com.android.media@310000000\nready 104\nboot 100000 1\nsuccess 160000 104\n",
             "1.0.0 boot 1\nactive com.android.tzdata 310000000 pre\n1.0.1 refused not-preinstalled com.android.media\n1.0.2 refused no-session 104\n1.0.3 refused no-session 104\n2.0.0 boot 2\nactive com.android.media 310000000 pre\nactive com.android.tzdata 310000000 pre\n2.0.1 refused no-session 104\nend 6\n",
+        ),
+        (
+            "# A module that was changed behind its seal is refused. The digests in the text were got with sha256sum.\nscale small\nimage S1B2\npre com.android.media@1\n# Version 2, with a file of its own. `seal` writes the listing of the digests.\nmodule media\ntext apex_manifest.json {\"name\":\"com.android.media\",\"version\":2}\ntext lib/codec one\nseal\ndone\nboot 1000 1\n# The module is sound. Its session is given up before it is made ready.\nsubmit 101 plain $media\nabort 101\nstate 101\n# The same again, but the codec is another behind the seal: the refusal tells the listed digest and the actual one.\nmodule media\ntext apex_manifest.json {\"name\":\"com.android.media\",\"version\":2}\ntext lib/codec one\nseal\ntext lib/codec two\ndone\nsubmit 102 plain $media\n# A refused submit leaves no session, and its id free.\nstate 102\n# Sealed with the new codec, the module is sound.\nmodule media\ntext apex_manifest.json {\"name\":\"com.android.media\",\"version\":2}\ntext lib/codec two\nseal\ndone\nsubmit 102 plain $media\nready 102\nboot 100000 1\nsuccess 160000 102\nstate 102\n",
+            "1.0.0 boot 1\nactive com.android.media 1 pre\n1.0.1 ok\n1.0.2 ok\n1.0.3 state ABORTED\n1.0.4 refused part 1 differs lib/codec 7692c3ad3540bb803c020b3aee66cd8887123234ea0c6e7143c0add73ff431ed 3fc4ccfe745870e2c0d99f71f30ff0656c8dedd41cc1d7d3d376b0dbe685e2f3\n1.0.5 refused no-session 102\n1.0.6 ok\n1.0.7 ok\n2.0.0 boot 2\nsession 102 ACTIVATED\nactive com.android.media 2 data\n2.0.1 ok\n2.0.2 state SUCCESS\nend 11\n",
         ),
     ];
     for (script, text) in cases {

@@ -22,7 +22,7 @@ impl Run {
     ghost use Rattle.std.specs.List.{All};
     ghost use Rattle.apex_world.specs.Playable.{IsBuilt, IsPlayable, IsPlayableBoot, IsPlayableLane};
     ghost use Rattle.apex_world.specs.World.{empty_world};
-    ghost use Rattle.device_play.specs.Plain.{world_of};
+    ghost use Rattle.device_play.specs.Plain.{world_of, Fits};
     ghost use Rattle.device_play.specs.Played.{HasPlayed};
     ghost use Rattle.device_play.specs.Put.{HasSinkCause};
     ghost use Rattle.device_play.specs.Run.{planned_boot, planned_call, call_plan, block_plan, segment_plan, boot_plan, boots_plan, Ran};
@@ -33,6 +33,7 @@ impl Run {
         ensures world { world_of result.world ≡ empty_world scale }
         ensures boots { result.world.boots ≡ 0 }
         ensures turns { result.turns.items ≡ [] }
+        ensures fits { Fits result.world }
     {
         Run {
             world: PlainWorld::new(alloc, scale),
@@ -51,10 +52,12 @@ impl Run {
         step: u32,
         call: &Call,
     ) -> Result<(), PutFailed>
-        requires { IsBuilt call.now }
+        requires built { IsBuilt call.now }
+        requires fits { Fits self.old.world }
         ensures ran { Ran result (planned_call boot lane step call.now ∷ []) (stage_of self.old (K.held sink.old)) (stage_of self.new (K.held sink.new)) }
         ensures faults { HasSinkCause result (K.faults sink.old) (K.faults sink.new) }
         ensures boots { self.new.world.boots ≡ self.old.world.boots }
+        ensures fits { IsOk result → Fits self.new.world }
     {
         let turn = TurnRow {
             boot,
@@ -75,10 +78,12 @@ impl Run {
         number: u32,
         boot: &ScriptBoot,
     ) -> Result<(), PutFailed>
-        requires { self.old.world.boots + 1 < 2 ^ 32 }
+        requires few { self.old.world.boots + 1 < 2 ^ 32 }
+        requires fits { Fits self.old.world }
         ensures ran { Ran result (planned_boot number boot.now ∷ []) (stage_of self.old (K.held sink.old)) (stage_of self.new (K.held sink.new)) }
         ensures faults { HasSinkCause result (K.faults sink.old) (K.faults sink.new) }
         ensures boots { IsOk result → self.new.world.boots ≡ self.old.world.boots + 1 }
+        ensures fits { IsOk result → Fits self.new.world }
     {
         let row = TurnRow {
             boot: number,
@@ -105,9 +110,11 @@ impl Run {
     ) -> Result<(), PutFailed>
         requires playable { IsPlayableLane lane.now }
         requires few { behind + length lane.now.calls < 2 ^ 32 }
+        requires fits { Fits self.old.world }
         ensures ran { Ran result (call_plan boot lane.now.number behind lane.now.calls) (stage_of self.old (K.held sink.old)) (stage_of self.new (K.held sink.new)) }
         ensures faults { HasSinkCause result (K.faults sink.old) (K.faults sink.new) }
         ensures boots { self.new.world.boots ≡ self.old.world.boots }
+        ensures fits { IsOk result → Fits self.new.world }
     {
         let mut step = behind;
         for call in lane.calls.as_slice() {
@@ -132,10 +139,12 @@ impl Run {
         requires within { at < length boot.now.segments }
         requires here { segment.now ≡ get_or boot.now.segments at segment.now }
         requires counts { HasCounts steps.old (blocks_before boot.now at) }
+        requires fits { Fits self.old.world }
         ensures ran { Ran result (block_plan number (blocks_before boot.now at) segment.now.lanes) (stage_of self.old (K.held sink.old)) (stage_of self.new (K.held sink.new)) }
         ensures counts { IsOk result → HasCounts steps.new (blocks_before boot.now (at + 1)) }
         ensures faults { HasSinkCause result (K.faults sink.old) (K.faults sink.new) }
         ensures boots { self.new.world.boots ≡ self.old.world.boots }
+        ensures fits { IsOk result → Fits self.new.world }
     {
         for lane in segment.lanes.as_slice() {
             let behind = steps[lane.number as usize];
@@ -153,10 +162,12 @@ impl Run {
         number: u32,
         boot: &ScriptBoot,
     ) -> Result<(), PutFailed>
-        requires { IsPlayableBoot (2 ^ 32) boot.now }
+        requires playable { IsPlayableBoot (2 ^ 32) boot.now }
+        requires fits { Fits self.old.world }
         ensures ran { Ran result (segment_plan number [] boot.now.segments) (stage_of self.old (K.held sink.old)) (stage_of self.new (K.held sink.new)) }
         ensures faults { HasSinkCause result (K.faults sink.old) (K.faults sink.new) }
         ensures boots { self.new.world.boots ≡ self.old.world.boots }
+        ensures fits { IsOk result → Fits self.new.world }
     {
         let mut steps = [0; LANES];
         for (at, segment) in boot.segments.as_slice().iter().enumerate() {
@@ -174,9 +185,11 @@ impl Run {
     ) -> Result<(), PutFailed>
         requires playable { IsPlayableBoot (2 ^ 32) boot.now }
         requires boots { self.old.world.boots + 1 < 2 ^ 32 }
+        requires fits { Fits self.old.world }
         ensures ran { Ran result (boot_plan number boot.now) (stage_of self.old (K.held sink.old)) (stage_of self.new (K.held sink.new)) }
         ensures faults { HasSinkCause result (K.faults sink.old) (K.faults sink.new) }
         ensures boots { IsOk result → self.new.world.boots ≡ self.old.world.boots + 1 }
+        ensures fits { IsOk result → Fits self.new.world }
     {
         self.play_boot(alloc, sink, number, boot)?;
         self.play_segments(alloc, sink, number, boot)
@@ -192,6 +205,7 @@ impl Run {
         requires few { length boots.now < 2 ^ 32 }
         requires playable { All (IsPlayableBoot (2 ^ 32)) boots.now }
         requires fresh { self.old.world.boots ≡ 0 }
+        requires fits { Fits self.old.world }
         ensures ran { Ran result (boots_plan 0 boots.now) (stage_of self.old (K.held sink.old)) (stage_of self.new (K.held sink.new)) }
         ensures faults { HasSinkCause result (K.faults sink.old) (K.faults sink.new) }
     {
@@ -214,6 +228,7 @@ impl Run {
         requires world { world_of self.old.world ≡ empty_world script.now.scale }
         requires boots { self.old.world.boots ≡ 0 }
         requires turns { self.old.turns.items ≡ [] }
+        requires fits { Fits self.old.world }
         ensures played { HasPlayed result script.now (K.held sink.old) (K.held sink.new) self.new.turns.items }
         ensures faults { HasSinkCause result (K.faults sink.old) (K.faults sink.new) }
     {

@@ -1,7 +1,7 @@
 -- A script that was read can be numbered: `script_playable`. Each line adds one boot or one call at most, and
 -- there are fewer lines than numbers.
 use Rattle.std.proofs.Common.{◌≡◌, ℕ, ◌+◌, ◌==◌, ◌^◌, ◌<◌, ◌≤◌, Bool, true, false, cond, List, [], ◌∷◌, ◌++◌, length, Option, Some, None, Err, refl, arith}
-use Rattle.std.specs.Prelude.{IfOk, IfSome, nat_le, nat_lt, option_to_list, flat_map}
+use Rattle.std.specs.Prelude.{IfOk, IfSome, nat_le, option_to_list, flat_map}
 use Rattle.std.specs.List.{All}
 use Rattle.std.specs.Str.Lines.{lines}
 use Rattle.std.proofs.lemmas.List.{length-append}
@@ -10,8 +10,8 @@ use Rattle.std.proofs.lemmas.List.Elements.{All-nil, All-cons, All-push, All-app
 use Rattle.std.proofs.lemmas.Option.{IfSome_then}
 use Rattle.std.proofs.lemmas.Bool.{leb-true}
 use Rattle.apex_base.specs.declared.numbers.Scale.{Scale}
-use Rattle.apex_base.specs.Numbers.{scale_modules}
-use Rattle.apex_base.specs.declared.records.Module.{Module}
+use Rattle.apex_base.specs.declared.numbers.SessionId.{SessionId}
+use Rattle.apex_base.specs.Results.{◌>>=◌}
 use Rattle.apex_world.specs.declared.calls.Call.{Call}
 use Rattle.apex_world.specs.declared.calls.Call.TheVariants as calls
 use Rattle.apex_world.specs.declared.calls.Image.{Image}
@@ -25,10 +25,13 @@ use Rattle.device_script.specs.declared.fault.ScriptWhy.TheVariants.{Bad}
 use Rattle.device_script.specs.declared.keyword.Keyword.{Keyword}
 use Rattle.device_script.specs.declared.line.Line.{Line}
 use Rattle.device_script.specs.declared.line.Line.TheVariants as line
-use Rattle.device_script.specs.Draft.{start, has_module, plain_segment, closed, is_not_yet, may_stand, pre_taken, boot_taken, call_taken, taken, finished_at, finished}
+use Rattle.device_script.specs.declared.block.Block.{Block}
+use Rattle.device_script.specs.declared.words.PartWord.{PartWord}
+use Rattle.device_script.specs.Blocks.{file_put, listing_put}
+use Rattle.device_script.specs.Draft.{start, plain_segment, closed, is_not_yet, may_stand, scale_taken, pre_taken, boot_taken, call_taken, submit_taken, file_taken, remove_taken, seal_taken, done_taken, block_becomes, taken, finished_at, finished}
+use Rattle.device_script.specs.Images.{module_named, package_of, image_with}
 use Rattle.device_script.specs.Lines.{line_of}
-use Rattle.device_script.specs.Results.{◌>>=◌}
-use Rattle.device_script.specs.Script.{is_passed, is_plain, first_keyword, words_read, line_read, at_line, lines_read, script_of}
+use Rattle.device_script.specs.Script.{is_passed, is_plain, first_keyword, keyword_read, line_read, lines_read, script_of}
 use Rattle.device_script.specs.Words.{words_of}
 use Rattle.device_script.proofs.LineLemmas.{few_lines}
 use Rattle.device_script.proofs.Steps.{tested_ok, from_ok, next_ok, told_ok}
@@ -58,7 +61,7 @@ weaker m n boots current le p = record {
 }
 
 -- what holds of the boots that are done and of the one that calls join holds of them all
-all_closed : (P : ScriptBoot → Type 0) (boots : List ScriptBoot) (current : Option ScriptBoot) → All P boots → IfSome current P → All P (boots ++ option_to_list current)
+pub all_closed : (P : ScriptBoot → Type 0) (boots : List ScriptBoot) (current : Option ScriptBoot) → All P boots → IfSome current P → All P (boots ++ option_to_list current)
 all_closed P boots None p q = All-append P boots [] p (All-nil P)
 all_closed P boots (Some b) p q = All-push P boots b p q
 
@@ -87,11 +90,17 @@ call_joins n b call built p = record {
 
 -- Lines
 
--- a module adds neither boot nor call
-pre_small : (n : ℕ) (d : Draft) (m : Module) (scale : Option Scale) (image : Option Image) → IsSmallDraft n d → IfOk (pre_taken d m scale image) (IsSmallDraft n)
-pre_small n d m None image p = tt
-pre_small n d m (Some scale) None p = tt
-pre_small n d m (Some scale) (Some image) p = tested_ok (has_module image.modules m.name) (nat_lt (length image.modules) (scale_modules scale)) _ _ _ _ tt p
+-- a scale adds neither boot nor call
+scale_small : (n : ℕ) (d : Draft) (scale : Scale) (before : Option Scale) → IsSmallDraft n d → IfOk (scale_taken d scale before) (IsSmallDraft n)
+scale_small n d scale None p = p
+scale_small n d scale (Some before) p = tt
+
+-- neither does a module
+pre_small : (n : ℕ) (d : Draft) (part : PartWord) (scale : Option Scale) (image : Option Image) → IsSmallDraft n d → IfOk (pre_taken d part scale image) (IsSmallDraft n)
+unfolding pre_taken
+pre_small n d part None image p = tt
+pre_small n d part (Some scale) None p = tt
+pre_small n d part (Some scale) (Some image) p = from_ok (module_named d.labels 2 part) _ _ (λ m. from_ok (package_of m) _ _ (λ added. from_ok (image_with scale image added) _ _ (λ i. p)))
 
 -- a boot begins without calls, and the one before it is done
 boot_small : (n : ℕ) (d : Draft) (time workers : ℕ) (scale : Option Scale) (image : Option Image) → IsSmallDraft n d → IfOk (boot_taken d time workers scale image) (IsSmallDraft (n + 1))
@@ -112,50 +121,80 @@ call_small n d call (Some b) built p = record {
   last = call_joins n b call built p.last;
 }
 
--- each line adds one boot or one call at most
-taken_small : (n : ℕ) (d : Draft) (l : Line) → IsSmallDraft n d → IfOk (taken d l) (IsSmallDraft (n + 1))
-unfolding taken
-taken_small n d (line.Scale scale) p = weaker n (n + 1) d.boots d.current (omega arith) p
-taken_small n d (line.Image print) p = weaker n (n + 1) d.boots d.current (omega arith) p
-taken_small n d (line.Pre m) p = pre_small (n + 1) d m d.scale d.image (weaker n (n + 1) d.boots d.current (omega arith) p)
-taken_small n d (line.Boot time workers) p = boot_small n d time workers d.scale d.image p
-taken_small n d (line.Submit id part) p = call_small n (record d { submitted = true }) (calls.Submit id [] false (part ∷ [])) d.current (omega arith) p
-taken_small n d (line.Ready id) p = call_small n d (calls.Ready id) d.current tt p
-taken_small n d (line.Success time id) p = call_small n d (calls.Success time id) d.current tt p
+-- a submit is a call
+submit_small : (n : ℕ) (d : Draft) (id : SessionId) (part : PartWord) → IsSmallDraft n d → IfOk (submit_taken d id part) (IsSmallDraft (n + 1))
+unfolding submit_taken
+submit_small n d id part p = from_ok (module_named d.labels 4 part) _ _ (λ m. call_small n d (calls.Submit id [] false (m ∷ [])) d.current (refl, refl, refl) p)
 
--- the same of a line's words
-words_small : (n : ℕ) (d : Draft) (k : Option Keyword) (words : List (List ℕ)) → IsSmallDraft n d → IfOk (words_read d k words) (IsSmallDraft (n + 1))
-words_small n d None words p = tt
-words_small n d (Some k) words p = tested_ok (is_not_yet d k words) (may_stand d k) _ _ _ _ tt (from_ok (line_of k words) (taken d) _ (λ l. taken_small n d l p))
+-- a block adds neither boot nor call
+file_small : (n : ℕ) (d : Draft) (path content : List ℕ) (block : Option Block) → IsSmallDraft n d → IfOk (file_taken d path content block) (IsSmallDraft n)
+file_small n d path content None p = tt
+file_small n d path content (Some block) p = from_ok (file_put block path content) (block_becomes d) _ (λ b. p)
+
+remove_small : (n : ℕ) (d : Draft) (path : List ℕ) (block : Option Block) → IsSmallDraft n d → IfOk (remove_taken d path block) (IsSmallDraft n)
+remove_small n d path None p = tt
+remove_small n d path (Some block) p = p
+
+seal_small : (n : ℕ) (d : Draft) (block : Option Block) → IsSmallDraft n d → IfOk (seal_taken d block) (IsSmallDraft n)
+seal_small n d None p = tt
+seal_small n d (Some block) p = from_ok (listing_put block) (block_becomes d) _ (λ b. p)
+
+done_small : (n : ℕ) (d : Draft) (block : Option Block) → IsSmallDraft n d → IfOk (done_taken d block) (IsSmallDraft n)
+done_small n d None p = tt
+done_small n d (Some block) p = p
+
+-- each line adds one boot or one call at most; the second bound is that of a line that adds none
+taken_small : (n number : ℕ) (d : Draft) (l : Line) → IsSmallDraft n d → IsSmallDraft (n + 1) d → IfOk (taken d number l) (IsSmallDraft (n + 1))
+unfolding taken
+taken_small n number d (line.Scale scale) p q = scale_small (n + 1) d scale d.scale q
+taken_small n number d (line.Image print) p q = q
+taken_small n number d (line.Pre part) p q = pre_small (n + 1) d part d.scale d.image q
+taken_small n number d (line.Boot time workers) p q = boot_small n d time workers d.scale d.image p
+taken_small n number d (line.Submit id part) p q = submit_small n d id part p
+taken_small n number d (line.Ready id) p q = call_small n d (calls.Ready id) d.current tt p
+taken_small n number d (line.Abort id) p q = call_small n d (calls.Abort id) d.current tt p
+taken_small n number d (line.Success time id) p q = call_small n d (calls.Success time id) d.current tt p
+taken_small n number d (line.State id) p q = call_small n d (calls.StateOf id) d.current tt p
+taken_small n number d (line.Module label) p q = q
+taken_small n number d (line.File path content) p q = file_small (n + 1) d path content d.block q
+taken_small n number d (line.Remove path) p q = remove_small (n + 1) d path d.block q
+taken_small n number d line.Seal p q = seal_small (n + 1) d d.block q
+taken_small n number d line.Done p q = done_small (n + 1) d d.block q
+
+-- the same of a line with that keyword
+keyword_small : (n number : ℕ) (d : Draft) (k : Option Keyword) (l : List ℕ) → IsSmallDraft n d → IfOk (keyword_read d number k l) (IsSmallDraft (n + 1))
+keyword_small n number d None l p = tt
+keyword_small n number d (Some k) l p = tested_ok (is_not_yet d k l) (may_stand d k) _ _ _ _ tt (from_ok (line_of k l) (taken d number) _ (λ said. taken_small n number d said p (weaker n (n + 1) d.boots d.current (omega arith) p)))
 
 -- the same of its bytes
-line_small : (n : ℕ) (d : Draft) (l : List ℕ) → IsSmallDraft n d → IfOk (line_read d l) (IsSmallDraft (n + 1))
+line_small : (n number : ℕ) (d : Draft) (l : List ℕ) → IsSmallDraft n d → IfOk (line_read d number l) (IsSmallDraft (n + 1))
 unfolding line_read
-line_small n d l p = tested_ok (is_passed l) (is_plain l) _ _ _ _ (weaker n (n + 1) d.boots d.current (omega arith) p) (words_small n d (first_keyword (words_of l)) (words_of l) p)
+line_small n number d l p = tested_ok (is_passed l) (is_plain l) _ _ _ _ (weaker n (n + 1) d.boots d.current (omega arith) p) (keyword_small n number d (first_keyword (words_of l)) l p)
 
 -- lines add as many boots and calls as they are, at most
 lines_small : (m n number : ℕ) (d : Draft) (ls : List (List ℕ)) → n + length ls ≤ m → IsSmallDraft n d → IfOk (lines_read number d ls) (IsSmallDraft m)
 lines_small m n number d [] le p = weaker n m d.boots d.current (omega arith) p
-lines_small m n number d (l ∷ ls) le p = next_ok _ _ (IsSmallDraft (n + 1)) _ (told_ok number (line_read d l) _ (line_small n d l p)) (λ e q. lines_small m (n + 1) (number + 1) e ls (omega arith) q)
+lines_small m n number d (l ∷ ls) le p = next_ok _ _ (IsSmallDraft (n + 1)) _ (told_ok number (line_read d number l) _ (line_small n number d l p)) (λ e q. lines_small m (n + 1) (number + 1) e ls (omega arith) q)
 
 -- Scripts
 
 -- the script of a draft within the numbers
-finished_playable : (d : Draft) (scale : Option Scale) → IsSmallDraft (2 ^ 32) d → IfOk (finished_at d scale) IsPlayable
-finished_playable d None p = tt
-finished_playable d (Some scale) p = record { boots = p.count; each = all_closed _ d.boots d.current p.done p.last }
+finished_playable : (d : Draft) (scale : Option Scale) (block : Option Block) → IsSmallDraft (2 ^ 32) d → IfOk (finished_at d scale block) IsPlayable
+finished_playable d None block p = tt
+finished_playable d (Some scale) (Some block) p = tt
+finished_playable d (Some scale) None p = record { boots = p.count; each = all_closed _ d.boots d.current p.done p.last }
 
 -- before the first line there is neither boot nor call
 start_small : IsSmallDraft 1 start
 start_small = record { count = omega arith; done = All-nil (IsPlayableBoot 1); last = tt }
 
 -- a script that isn't too long has fewer lines than numbers
-by_length : (bytes : List ℕ) (b : Bool) → nat_le (length bytes) 16777216 ≡ b → IfOk (cond b (lines_read 1 start (lines bytes) >>= λ d. at_line 1 (finished d)) (Err (Bad 0 TooLong))) IsPlayable
+by_length : (bytes : List ℕ) (b : Bool) → nat_le (length bytes) 16777216 ≡ b → IfOk (cond b (lines_read 1 start (lines bytes) >>= finished) (Err (Bad 0 TooLong))) IsPlayable
 by_length bytes false e = tt
 by_length bytes true e =
     let few : 1 + length (lines bytes) ≤ 2 ^ 32 = omega (arith, few_lines bytes, leb-true _ _ e) in
-    next_ok (lines_read 1 start (lines bytes)) (λ d. at_line 1 (finished d)) (IsSmallDraft (2 ^ 32)) IsPlayable (lines_small (2 ^ 32) 1 1 start (lines bytes) few start_small)
-    (λ d p. told_ok 1 (finished d) IsPlayable (finished_playable d d.scale p))
+    next_ok (lines_read 1 start (lines bytes)) finished (IsSmallDraft (2 ^ 32)) IsPlayable (lines_small (2 ^ 32) 1 1 start (lines bytes) few start_small)
+    (λ d p. finished_playable d d.scale d.block p)
 
 -- a script that was read can be numbered
 pub script_playable : (bytes : List ℕ) → IfOk (script_of bytes) IsPlayable

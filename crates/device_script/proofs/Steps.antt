@@ -2,7 +2,7 @@
 use Rattle.std.proofs.Common.{ℕ, Bool, true, false, cond, Result, Ok, Err}
 use Rattle.std.specs.Prelude.{IfOk}
 use Rattle.device_script.specs.declared.fault.LineFault.{LineFault}
-use Rattle.device_script.specs.Results.{◌>>=◌}
+use Rattle.apex_base.specs.Results.{◌>>=◌}
 use Rattle.device_script.specs.Script.{at_line}
 
 -- of what the first test gives and of what the second does, and a fault has no value

@@ -1,88 +1,99 @@
 -- What the lines so far have made, and where the next one may stand: docs/formats/script.md, "Lines".
-use Rattle.std.specs.Prelude.{ℕ, ◌||◌, ◌==◌, Bool, true, false, is_some, is_none, nat_lt, List, [], ◌∷◌, ◌++◌, length, option_to_list, codes, Option, Some, None, Result, Ok, Err, if◌then◌else◌}
-use Rattle.std.specs.List.{list_any}
+use Rattle.std.specs.Prelude.{ℕ, Bool, true, false, is_some, is_none, List, [], ◌∷◌, ◌++◌, option_to_list, codes, Option, Some, None, Result, Ok, Err, if◌then◌else◌}
 use Rattle.std.specs.Str.{bytes_eq}
+use Rattle.std.specs.FinMap as fin
 use Rattle.apex_base.specs.declared.numbers.Scale.{Scale}
 use Rattle.apex_base.specs.declared.numbers.SessionId.{SessionId}
-use Rattle.apex_base.specs.declared.records.Module.{Module}
-use Rattle.apex_base.specs.Numbers.{scale_modules}
+use Rattle.apex_base.specs.Results.{◌>>=◌}
 use Rattle.apex_world.specs.declared.calls.Call.{Call}
 use Rattle.apex_world.specs.declared.calls.Call.TheVariants as calls
 use Rattle.apex_world.specs.declared.calls.Image.{Image}
 use Rattle.apex_world.specs.declared.script.Script.{Script}
 use Rattle.apex_world.specs.declared.script.ScriptBoot.{ScriptBoot}
 use Rattle.apex_world.specs.declared.script.Segment.{Segment}
+use Rattle.device_script.specs.declared.block.Block.{Block}
 use Rattle.device_script.specs.declared.draft.Draft.{Draft}
 use Rattle.device_script.specs.declared.fault.LineFault.{LineFault}
-use Rattle.device_script.specs.declared.fault.LineFault.TheVariants.{BadPlace, Twice, Full, Unended}
+use Rattle.device_script.specs.declared.fault.LineFault.TheVariants.{BadPlace, Unended}
+use Rattle.device_script.specs.declared.fault.ScriptWhy.{ScriptWhy}
+use Rattle.device_script.specs.declared.fault.ScriptWhy.TheVariants.{Bad}
 use Rattle.device_script.specs.declared.keyword.Keyword.{Keyword}
 use Rattle.device_script.specs.declared.keyword.Keyword.TheVariants as keyword
 use Rattle.device_script.specs.declared.line.Line.{Line}
 use Rattle.device_script.specs.declared.line.Line.TheVariants as line
+use Rattle.device_script.specs.declared.words.PartWord.{PartWord}
+use Rattle.device_script.specs.Blocks.{begun, file_put, file_removed, listing_put}
+use Rattle.device_script.specs.Images.{module_named, package_of, image_with}
+use Rattle.device_script.specs.Words.{words_of}
 
 -- before the first line
 abbrev pub start : Draft
-start = record { scale = None; image = None; boots = []; current = None; submitted = false }
+start = record { scale = None; image = None; boots = []; current = None; labels = fin.empty; block = None }
 
 -- Which lines aren't read yet
-
--- a word that names a label begins with a dollar sign
-abbrev pub is_label : List ℕ → Bool
-is_label [] = false
-is_label (b ∷ bs) = b == 36
-
-abbrev pub has_label : List (List ℕ) → Bool
-has_label words = list_any is_label words
 
 -- the third word asks for a rollback
 abbrev pub asks_rollback : List (List ℕ) → Bool
 asks_rollback (first ∷ id ∷ kind ∷ rest) = bytes_eq kind (codes "rollback")
 asks_rollback _ = false
 
--- a line of a later table, a second image, a second submit, a label, or a rollback
-abbrev pub is_not_yet : Draft → Keyword → List (List ℕ) → Bool
-is_not_yet d keyword.Later words = true
-is_not_yet d keyword.Image words = is_some d.image
-is_not_yet d keyword.Pre words = has_label words
-is_not_yet d keyword.Submit words = d.submitted || has_label words || asks_rollback words
-is_not_yet d keyword.Scale words = false
-is_not_yet d keyword.Boot words = false
-is_not_yet d keyword.Ready words = false
-is_not_yet d keyword.Success words = false
+-- a line of a later table, a second image, or a rollback
+abbrev pub is_not_yet : Draft → Keyword → List ℕ → Bool
+is_not_yet d keyword.Later bytes = true
+is_not_yet d keyword.Image bytes = is_some d.image
+is_not_yet d keyword.Submit bytes = asks_rollback (words_of bytes)
+is_not_yet d _ bytes = false
 
 -- Where a line may stand
 
--- scale first and once; an image behind it; modules and boots behind an image; calls behind a boot
+-- these stand in module blocks alone
+abbrev pub is_of_blocks : Keyword → Bool
+is_of_blocks keyword.File = true
+is_of_blocks keyword.Text = true
+is_of_blocks keyword.Remove = true
+is_of_blocks keyword.Seal = true
+is_of_blocks keyword.Done = true
+is_of_blocks _ = false
+
+-- scale first and once; images and blocks behind it; modules and boots behind an image; calls behind a boot
+abbrev pub may_stand_outside : Draft → Keyword → Bool
+may_stand_outside d keyword.Scale = is_none d.scale
+may_stand_outside d keyword.Image = is_some d.scale
+may_stand_outside d keyword.Module = is_some d.scale
+may_stand_outside d keyword.Later = is_some d.scale
+may_stand_outside d keyword.Pre = is_some d.image
+may_stand_outside d keyword.Boot = is_some d.image
+may_stand_outside d keyword.Submit = is_some d.current
+may_stand_outside d keyword.Ready = is_some d.current
+may_stand_outside d keyword.Abort = is_some d.current
+may_stand_outside d keyword.Success = is_some d.current
+may_stand_outside d keyword.State = is_some d.current
+may_stand_outside d _ = false
+
+-- in a block only its own lines may stand
 abbrev pub may_stand : Draft → Keyword → Bool
-may_stand d keyword.Scale = is_none d.scale
-may_stand d keyword.Image = is_some d.scale
-may_stand d keyword.Pre = is_some d.image
-may_stand d keyword.Boot = is_some d.image
-may_stand d keyword.Submit = is_some d.current
-may_stand d keyword.Ready = is_some d.current
-may_stand d keyword.Success = is_some d.current
-may_stand d keyword.Later = is_some d.scale
+may_stand d k = if is_some d.block then is_of_blocks k else may_stand_outside d k
 
 -- What a line makes
 
-abbrev pub scale_taken : Draft → Scale → Result Draft LineFault
-scale_taken d scale = Ok (record d { scale = Some scale })
+-- the scale, which stays
+abbrev pub scale_taken : Draft → Scale → Option Scale → Result Draft LineFault
+scale_taken d scale None = Ok (record d { scale = Some scale })
+scale_taken d scale (Some before) = Err BadPlace
 
 -- a new image without modules
 abbrev pub image_taken : Draft → List ℕ → Result Draft LineFault
 image_taken d print = Ok (record d { image = Some (record { print = print; modules = [] }) })
 
-abbrev pub has_module : List Module → List ℕ → Bool
-has_module modules name = list_any (λ m. bytes_eq m.name name) modules
-
 -- a module more in the last image
-abbrev pub pre_taken : Draft → Module → Option Scale → Option Image → Result Draft LineFault
-pre_taken d m None image = Err BadPlace
-pre_taken d m (Some scale) None = Err BadPlace
-pre_taken d m (Some scale) (Some image) =
-    if has_module image.modules m.name then Err Twice
-    else (if nat_lt (length image.modules) (scale_modules scale) then Ok (record d { image = Some (record image { modules = image.modules ++ m ∷ [] }) })
-    else Err Full)
+unfoldable pub pre_taken : Draft → PartWord → Option Scale → Option Image → Result Draft LineFault
+pre_taken d part None image = Err BadPlace
+pre_taken d part (Some scale) None = Err BadPlace
+pre_taken d part (Some scale) (Some image) = do
+  m ← module_named d.labels 2 part
+  added ← package_of m
+  image ← image_with scale image added
+  Ok (record d { image = Some image })
 
 -- the boots so far, the one that calls join included
 abbrev pub closed : Draft → List ScriptBoot
@@ -113,23 +124,55 @@ call_taken d call None = Err BadPlace
 call_taken d call (Some boot) = Ok (record d { current = Some (record boot { segments = boot.segments ++ plain_segment call ∷ [] }) })
 
 -- a plain submit of one part
-abbrev pub submit_taken : Draft → SessionId → Module → Result Draft LineFault
-submit_taken d id part = call_taken (record d { submitted = true }) (calls.Submit id [] false (part ∷ [])) d.current
+unfoldable pub submit_taken : Draft → SessionId → PartWord → Result Draft LineFault
+submit_taken d id part = do
+  m ← module_named d.labels 4 part
+  call_taken d (calls.Submit id [] false (m ∷ [])) d.current
 
--- a draft with a line more
-unfoldable pub taken : Draft → Line → Result Draft LineFault
-taken d (line.Scale scale) = scale_taken d scale
-taken d (line.Image print) = image_taken d print
-taken d (line.Pre m) = pre_taken d m d.scale d.image
-taken d (line.Boot time workers) = boot_taken d time workers d.scale d.image
-taken d (line.Submit id part) = submit_taken d id part
-taken d (line.Ready id) = call_taken d (calls.Ready id) d.current
-taken d (line.Success time id) = call_taken d (calls.Success time id) d.current
+-- Module blocks
 
--- the script that the lines make, where there are no more
-abbrev pub finished_at : Draft → Option Scale → Result Script LineFault
-finished_at d None = Err Unended
-finished_at d (Some scale) = Ok (record { scale = scale; boots = closed d })
+abbrev pub block_becomes : Draft → Block → Result Draft LineFault
+block_becomes d block = Ok (record d { block = Some block })
 
-abbrev pub finished : Draft → Result Script LineFault
-finished d = finished_at d d.scale
+abbrev pub file_taken : Draft → List ℕ → List ℕ → Option Block → Result Draft LineFault
+file_taken d path content None = Err BadPlace
+file_taken d path content (Some block) = file_put block path content >>= block_becomes d
+
+abbrev pub remove_taken : Draft → List ℕ → Option Block → Result Draft LineFault
+remove_taken d path None = Err BadPlace
+remove_taken d path (Some block) = block_becomes d (file_removed block path)
+
+abbrev pub seal_taken : Draft → Option Block → Result Draft LineFault
+seal_taken d None = Err BadPlace
+seal_taken d (Some block) = listing_put block >>= block_becomes d
+
+-- from here on the label stands for the block's module
+abbrev pub done_taken : Draft → Option Block → Result Draft LineFault
+done_taken d None = Err BadPlace
+done_taken d (Some block) = Ok (record d { labels = fin.insert d.labels block.label block.content; block = None })
+
+-- a draft with a line more, which is line n
+unfoldable pub taken : Draft → ℕ → Line → Result Draft LineFault
+taken d n (line.Scale scale) = scale_taken d scale d.scale
+taken d n (line.Image print) = image_taken d print
+taken d n (line.Pre part) = pre_taken d part d.scale d.image
+taken d n (line.Boot time workers) = boot_taken d time workers d.scale d.image
+taken d n (line.Submit id part) = submit_taken d id part
+taken d n (line.Ready id) = call_taken d (calls.Ready id) d.current
+taken d n (line.Abort id) = call_taken d (calls.Abort id) d.current
+taken d n (line.Success time id) = call_taken d (calls.Success time id) d.current
+taken d n (line.State id) = call_taken d (calls.StateOf id) d.current
+taken d n (line.Module label) = block_becomes d (begun n label)
+taken d n (line.File path content) = file_taken d path content d.block
+taken d n (line.Remove path) = remove_taken d path d.block
+taken d n line.Seal = seal_taken d d.block
+taken d n line.Done = done_taken d d.block
+
+-- the script that the lines make, where there are no more and no block is open
+abbrev pub finished_at : Draft → Option Scale → Option Block → Result Script ScriptWhy
+finished_at d None block = Err (Bad 1 Unended)
+finished_at d (Some scale) None = Ok (record { scale = scale; boots = closed d })
+finished_at d (Some scale) (Some block) = Err (Bad block.line Unended)
+
+abbrev pub finished : Draft → Result Script ScriptWhy
+finished d = finished_at d d.scale d.block

@@ -1,7 +1,9 @@
+pub mod Blocks
 pub mod Draft
+pub mod Images
 pub mod Keywords
 pub mod Lines
-pub mod Results
+pub mod ReadImages
 pub mod Script
 pub mod Taking
 pub mod Views

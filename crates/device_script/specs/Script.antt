@@ -2,6 +2,7 @@
 use Rattle.std.specs.Prelude.{◌≡◌, ℕ, ◌+◌, ◌&&◌, ◌==◌, Bool, true, nat_le, List, [], ◌∷◌, length, Option, Some, None, Result, Ok, Err, if◌then◌else◌}
 use Rattle.std.specs.List.{list_all}
 use Rattle.std.specs.Str.Lines.{lines}
+use Rattle.apex_base.specs.Results.{◌>>=◌}
 use Rattle.apex_world.specs.declared.script.Script.{Script}
 use Rattle.device_script.specs.declared.draft.Draft.{Draft}
 use Rattle.device_script.specs.declared.fault.LineError.{LineError}
@@ -14,7 +15,6 @@ use Rattle.device_script.specs.declared.keyword.Keyword.{Keyword}
 use Rattle.device_script.specs.Draft.{start, is_not_yet, may_stand, taken, finished}
 use Rattle.device_script.specs.Keywords.{keyword_of}
 use Rattle.device_script.specs.Lines.{line_of}
-use Rattle.device_script.specs.Results.{◌>>=◌}
 use Rattle.device_script.specs.Words.{words_of}
 
 -- a line is passed over where it has no word, or its first word begins with a number sign
@@ -31,21 +31,21 @@ first_keyword [] = None
 first_keyword (word ∷ words) = keyword_of word
 
 -- a keyword, its place and its words are judged in this order
-abbrev pub words_read : Draft → Option Keyword → List (List ℕ) → Result Draft LineFault
-words_read d None words = Err UnknownWord
-words_read d (Some k) words =
-    if is_not_yet d k words then Err NotYet
-    else (if may_stand d k then line_of k words >>= taken d
+abbrev pub keyword_read : Draft → ℕ → Option Keyword → List ℕ → Result Draft LineFault
+keyword_read d n None line = Err UnknownWord
+keyword_read d n (Some k) line =
+    if is_not_yet d k line then Err NotYet
+    else (if may_stand d k then line_of k line >>= taken d n
     else Err BadPlace)
 
--- a draft with a line more
-unfoldable pub line_read : Draft → List ℕ → Result Draft LineFault
-line_read d line =
+-- a draft with a line more, which is line n
+unfoldable pub line_read : Draft → ℕ → List ℕ → Result Draft LineFault
+line_read d n line =
     if is_passed line then Ok d
-    else (if is_plain line then words_read d (first_keyword (words_of line)) (words_of line)
+    else (if is_plain line then keyword_read d n (first_keyword (words_of line)) line
     else Err BadByte)
 
--- a fault, told of a line
+-- a fault, told of its line
 abbrev pub at_line : {T : Type 0} → ℕ → Result T LineFault → Result T ScriptWhy
 at_line n (Ok x) = Ok x
 at_line n (Err fault) = Err (Bad n fault)
@@ -53,12 +53,12 @@ at_line n (Err fault) = Err (Bad n fault)
 -- a draft with lines more, the first of which is line n
 abbrev pub lines_read : ℕ → Draft → List (List ℕ) → Result Draft ScriptWhy
 lines_read n d [] = Ok d
-lines_read n d (l ∷ ls) = at_line n (line_read d l) >>= λ e. lines_read (n + 1) e ls
+lines_read n d (l ∷ ls) = at_line n (line_read d n l) >>= λ e. lines_read (n + 1) e ls
 
 -- the script that the bytes are, or their first bad line
 unfoldable pub script_of : List ℕ → Result Script ScriptWhy
 script_of bytes =
-    if nat_le (length bytes) 16777216 then (lines_read 1 start (lines bytes) >>= λ d. at_line 1 (finished d))
+    if nat_le (length bytes) 16777216 then (lines_read 1 start (lines bytes) >>= finished)
     else Err (Bad 0 TooLong)
 
 -- what was read is what a definition says; want of memory is free

@@ -1,4 +1,5 @@
 //! Why bytes are no script.
+use apex_base::ModuleFault;
 use std::alloc::{AllocError, AllocFailed};
 use thiserror::Error;
 
@@ -26,13 +27,19 @@ pub enum LineFault {
     /// The word of this number, from 1, is the first that isn't readable or in range.
     #[error("bad-word {word}")]
     BadWord { word: u32 },
+    /// The word of this number is a label, and no block above has it.
+    #[error("no-label {word}")]
+    NoLabel { word: u32 },
+    /// The manifest of the module doesn't read, for this reason.
+    #[error("bad-module {fault}")]
+    BadModule { fault: ModuleFault },
     /// The image has a module of that name already.
     #[error("twice")]
     Twice,
-    /// The image has as many modules as the scale allows.
+    /// The image has as many modules as the scale allows, or the module of the block has no room for the file.
     #[error("full")]
     Full,
-    /// The script ends too early: it has no `scale` line.
+    /// The script ends too early: within a block, or without a `scale` line.
     #[error("unended")]
     Unended,
 }

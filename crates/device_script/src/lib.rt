@@ -1,9 +1,14 @@
 //! Scripts, read from bytes: `docs/formats/script.md`.
 #![tactic(auto)]
 
+mod block;
+#[cfg(test)]
+mod block_tests;
 mod draft;
 mod fault;
+mod image;
 mod keyword;
+mod labels;
 mod line;
 mod read;
 #[cfg(test)]

@@ -1,23 +1,35 @@
-//! What the words of a line say. Where a line may stand is the business of `draft`.
+//! What a line says. Where a line may stand is the business of `draft`.
 ghost use Rattle.std.specs.Prelude.{◌≡◌};
 ghost use Rattle.device_script.specs.Views.{views};
-ghost use Rattle.device_script.specs.Lines.{read_or, scale_line, image_line, pre_line, boot_line, submit_line, ready_line, success_line, line_of};
+ghost use Rattle.device_script.specs.Lines.{read_or, scale_line, image_line, pre_line, boot_line, submit_line, ready_line, abort_line, success_line, state_line, words_line, line_of};
+ghost use Rattle.device_script.specs.Taking.{Gives};
 
-use crate::fault::LineFault;
+mod blocks;
+
+use crate::fault::{LineError, LineFault};
 use crate::keyword::Keyword;
-use crate::words::{id, is_plain_kind, part, scale, time, workers};
-use apex_base::{Millis, Module, Print, Scale, SessionId};
+use crate::words::{PartWord, id, is_plain_kind, part, scale, time, words, workers};
+use apex_base::{Bytes, FilePath, Millis, Name, Print, Scale, SessionId};
+use blocks::{bare_line, file_line, module_line, remove_line, text_line};
+use std::alloc::Global;
 
-/// A line whose words could be read.
-#[derive(Clone, Copy)]
+/// A line whose words could be read. `File` stands for a `text` line too.
+#[derive(Drop)]
 pub enum Line {
     Scale(Scale),
     Image(Print),
-    Pre(Module),
+    Pre(PartWord),
     Boot { time: Millis, workers: u32 },
-    Submit { id: SessionId, part: Module },
+    Submit { id: SessionId, part: PartWord },
     Ready { id: SessionId },
+    Abort { id: SessionId },
     Success { time: Millis, id: SessionId },
+    State { id: SessionId },
+    Module(Name),
+    File { path: FilePath, content: Bytes },
+    Remove(FilePath),
+    Seal,
+    Done,
 }
 
 /// What was read of the word of a number, or that it couldn't be read.
@@ -98,6 +110,17 @@ fn ready_line(words: &[&[u8]]) -> Result<Line, LineFault>
     Ok(Line::Ready { id })
 }
 
+#[tactic(auto, unfolding(crate::specs::Lines::abort_line))]
+fn abort_line(words: &[&[u8]]) -> Result<Line, LineFault>
+    ensures { result ≡ abort_line (views words.now) }
+{
+    let [_, number] = words else {
+        return Err(LineFault::Words);
+    };
+    let id = read_or(2, id(number))?;
+    Ok(Line::Abort { id })
+}
+
 #[tactic(auto, unfolding(crate::specs::Lines::success_line))]
 fn success_line(words: &[&[u8]]) -> Result<Line, LineFault>
     ensures { result ≡ success_line (views words.now) }
@@ -110,10 +133,20 @@ fn success_line(words: &[&[u8]]) -> Result<Line, LineFault>
     Ok(Line::Success { time, id })
 }
 
-/// What the words of a line say, the first of which is this keyword.
-#[tactic(auto, unfolding(crate::specs::Lines::line_of))]
-pub fn line_of(keyword: Keyword, words: &[&[u8]]) -> Result<Line, LineFault>
-    ensures { result ≡ line_of keyword (views words.now) }
+#[tactic(auto, unfolding(crate::specs::Lines::state_line))]
+fn state_line(words: &[&[u8]]) -> Result<Line, LineFault>
+    ensures { result ≡ state_line (views words.now) }
+{
+    let [_, number] = words else {
+        return Err(LineFault::Words);
+    };
+    let id = read_or(2, id(number))?;
+    Ok(Line::State { id })
+}
+
+#[tactic(auto, unfolding(crate::specs::Lines::words_line))]
+fn words_line(keyword: Keyword, words: &[&[u8]]) -> Result<Line, LineFault>
+    ensures { result ≡ words_line keyword (views words.now) }
 {
     match keyword {
         Keyword::Scale => scale_line(words),
@@ -122,7 +155,28 @@ pub fn line_of(keyword: Keyword, words: &[&[u8]]) -> Result<Line, LineFault>
         Keyword::Boot => boot_line(words),
         Keyword::Submit => submit_line(words),
         Keyword::Ready => ready_line(words),
+        Keyword::Abort => abort_line(words),
         Keyword::Success => success_line(words),
-        Keyword::Later => Err(LineFault::NotYet),
+        Keyword::State => state_line(words),
+        Keyword::Module => module_line(words),
+        Keyword::Remove => remove_line(words),
+        Keyword::Seal => bare_line(Line::Seal, words),
+        Keyword::Done => bare_line(Line::Done, words),
+        Keyword::File | Keyword::Text | Keyword::Later => Err(LineFault::NotYet),
     }
+}
+
+/// What a line says whose first word is this keyword. The content of a `text` line is copied once, and its
+/// words aren't listed: there may be half a million.
+pub fn line_of(alloc: Global, keyword: Keyword, line: &[u8]) -> Result<Line, LineError>
+    ensures { Gives result (line_of keyword line.now) }
+{
+    if let Keyword::Text = keyword {
+        return text_line(alloc, line);
+    }
+    let words = words(alloc, line)?;
+    if let Keyword::File = keyword {
+        return file_line(alloc, &words);
+    }
+    Ok(words_line(keyword, &words)?)
 }

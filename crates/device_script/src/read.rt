@@ -4,14 +4,16 @@ ghost use Rattle.std.specs.Str.Lines.{strip_carriage_return, lines};
 ghost use Rattle.apex_world.specs.Playable.{IsPlayable};
 ghost use Rattle.device_script.specs.Script.{is_passed, is_plain, line_read, lines_read, script_of, first_keyword, told_of, IsRead};
 ghost use Rattle.device_script.specs.Draft.{start};
-ghost use Rattle.device_script.specs.Views.{views};
+ghost use Rattle.device_script.specs.ReadImages.{HasReadImages};
+ghost use Rattle.device_script.specs.Words.{words_of};
 ghost use Rattle.device_script.specs.Taking.{Takes};
 
 use crate::draft::Draft;
 use crate::fault::{LineError, LineFault, ScriptWhy};
 use crate::keyword::{Keyword, keyword_of};
 use crate::line::line_of;
-use crate::words::{cut_first, words};
+use crate::words::cut_word;
+use apex_base::cut_first;
 use apex_world::Script;
 use std::alloc::Global;
 
@@ -50,12 +52,12 @@ fn without_return(line: &[u8]) -> &[u8]
     }
 }
 
-fn first_keyword(words: &[&[u8]]) -> Option<Keyword>
-    ensures { result ≡ first_keyword (views words.now) }
+fn first_keyword(line: &[u8]) -> Option<Keyword>
+    ensures { result ≡ first_keyword (words_of line.now) }
 {
-    match words {
-        [] => None,
-        [word, ..] => keyword_of(word),
+    match cut_word(line) {
+        None => None,
+        Some((word, _)) => keyword_of(word),
     }
 }
 
@@ -69,10 +71,10 @@ fn told_of(line: u32, e: LineError) -> ScriptWhy
     }
 }
 
-/// Reads a line that isn't passed over into the draft.
+/// Reads a line of that number into the draft.
 #[tactic(auto, unfolding(crate::specs::Script::line_read))]
-fn read_line(draft: &mut Draft, alloc: Global, line: &[u8]) -> Result<(), LineError>
-    ensures { Takes result draft.new (line_read draft.old line.now) }
+fn read_line(draft: &mut Draft, alloc: Global, number: u32, line: &[u8]) -> Result<(), LineError>
+    ensures { Takes result draft.new (line_read draft.old number line.now) }
 {
     if is_passed(line) {
         return Ok(());
@@ -80,18 +82,17 @@ fn read_line(draft: &mut Draft, alloc: Global, line: &[u8]) -> Result<(), LineEr
     if !is_plain(line) {
         return Err(LineError::Fault(LineFault::BadByte));
     }
-    let words = words(alloc, line)?;
-    let Some(keyword) = first_keyword(&words) else {
+    let Some(keyword) = first_keyword(line) else {
         return Err(LineError::Fault(LineFault::UnknownWord));
     };
-    if draft.is_not_yet(keyword, &words) {
+    if draft.is_not_yet(keyword, line) {
         return Err(LineError::Fault(LineFault::NotYet));
     }
     if !draft.may_stand(keyword) {
         return Err(LineError::Fault(LineFault::BadPlace));
     }
-    let line = line_of(keyword, &words)?;
-    draft.take(alloc, &line)
+    let line = line_of(alloc, keyword, line)?;
+    draft.take(alloc, number, line)
 }
 
 /// Reads lines into a draft, the first of which is line 1.
@@ -103,7 +104,7 @@ fn read_lines(alloc: Global, bytes: &[u8]) -> Result<Draft, ScriptWhy>
     let mut rest = bytes;
     let mut number: u32 = 1;
     while let Some((line, behind)) = cut_first(rest, b'\n') {
-        match read_line(&mut draft, alloc, without_return(line)) {
+        match read_line(&mut draft, alloc, number, without_return(line)) {
             Err(e) => return Err(told_of(number, e)),
             Ok(()) => {}
         }
@@ -113,7 +114,7 @@ fn read_lines(alloc: Global, bytes: &[u8]) -> Result<Draft, ScriptWhy>
     if rest.is_empty() {
         return Ok(draft);
     }
-    match read_line(&mut draft, alloc, rest) {
+    match read_line(&mut draft, alloc, number, rest) {
         Err(e) => Err(told_of(number, e)),
         Ok(()) => Ok(draft),
     }
@@ -131,10 +132,7 @@ fn read(alloc: Global, bytes: &[u8]) -> Result<Script, ScriptWhy>
     }
     match read_lines(alloc, bytes) {
         Err(e) => Err(e),
-        Ok(draft) => match draft.finish() {
-            Err(e) => Err(told_of(1, e)),
-            Ok(script) => Ok(script),
-        },
+        Ok(draft) => draft.finish(),
     }
 }
 
@@ -145,6 +143,10 @@ pub fn read_script(alloc: Global, bytes: &[u8]) -> Result<Script, ScriptWhy>
 
     // Boots and steps of a script can be numbered, since it isn't long.
     ensures playable { IfOk result IsPlayable }
+
+    // The image of each boot has each name once and no more modules than the scale allows, and a module's manifest
+    // says its name and version.
+    ensures images { IfOk result HasReadImages }
 {
     match read(alloc, bytes) {
         Err(e) => Err(e),

@@ -1,17 +1,23 @@
 //! Scripts and the lines that make bytes none, worked out by hand from `docs/formats/script.md`.
 use crate::{LineFault, ScriptBoot, ScriptWhy, read_script};
-use apex_base::{Module, Scale};
-use apex_world::Call;
-use std::alloc::Global;
+use apex_base::{ModuleFault, Name, Scale, Version};
+use apex_manifest::ManifestWhy;
+use apex_world::{Call, SharedModule};
+use std::alloc::{AllocError, Global};
 use std::test::Fail;
 
 /// The example of the format's page, line by line.
-const EXAMPLE: [&str; 10] = [
-    "# One module, updated once.",
+const EXAMPLE: [&str; 15] = [
+    "# A module of three files, updated once by one of the short form.",
     "scale small",
+    "module m",
+    "text apex_manifest.json {\"name\":\"a\",\"version\":5}",
+    "file bin/run 7f454c46",
+    "seal",
+    "done",
     "",
     "image S1B2",
-    "pre a@5",
+    "pre $m",
     "boot 0 1",
     "submit 7 plain a@6",
     "ready 7",
@@ -20,24 +26,32 @@ const EXAMPLE: [&str; 10] = [
 ];
 
 /// Lines 1 to 4 of scripts whose fifth line is at fault, or isn't.
-const FOUR_LINES: &str = "scale small\nimage P\npre a@1\nboot 0 1\n";
+pub const FOUR_LINES: &str = "scale small\nimage P\npre a@1\nboot 0 1\n";
 
 /// Why the bytes are no script.
-fn why(alloc: Global, bytes: &[u8]) -> Option<ScriptWhy> {
-    match read_script(alloc, bytes) {
-        Ok(_) => None,
-        Err(why) => Some(why),
-    }
+pub fn why(alloc: Global, bytes: &[u8]) -> Option<ScriptWhy> {
+    read_script(alloc, bytes).err()
 }
 
-fn bad(line: u32, why: LineFault) -> Option<ScriptWhy> {
+pub fn bad(line: u32, why: LineFault) -> Option<ScriptWhy> {
     Some(ScriptWhy::Bad { line, why })
 }
 
-fn module_text(alloc: Global, part: &Module) -> Result<String, Fail> {
-    let name = str::from_utf8(part.name.as_bytes())?;
-    let version = part.version.number();
-    Ok(format!(in alloc; "{name}@{version}")?)
+fn module_text(alloc: Global, name: &Name, version: Version) -> Result<String, Fail> {
+    let name = str::from_utf8(name.as_bytes())?;
+    Ok(format!(in alloc; "{name}@{}", version.number())?)
+}
+
+/// The name, the version and the weight of a module, or why its manifest doesn't read.
+fn content_text(alloc: Global, content: &SharedModule) -> Result<String, Fail> {
+    match content.manifest(alloc) {
+        Err(ManifestWhy::NoMemory) => Err(AllocError.into()),
+        Err(ManifestWhy::Fault(fault)) => Ok(format!(in alloc; "{fault}")?),
+        Ok(m) => {
+            let text = module_text(alloc, &m.name, m.version)?;
+            Ok(format!(in alloc; "{text}/{}", content.weight())?)
+        }
+    }
 }
 
 fn call_text(alloc: Global, call: &Call) -> Result<String, Fail> {
@@ -52,24 +66,26 @@ fn call_text(alloc: Global, call: &Call) -> Result<String, Fail> {
             let mut text = format!(in alloc; "submit {} {rollback} {children}", id.0)?;
             for part in parts.as_slice() {
                 text.push_str(" ")?;
-                text.push_str(&module_text(alloc, part)?)?;
+                text.push_str(&content_text(alloc, part)?)?;
             }
             Ok(text)
         }
         Call::Ready { id } => Ok(format!(in alloc; "ready {}", id.0)?),
+        Call::Abort { id } => Ok(format!(in alloc; "abort {}", id.0)?),
         Call::Success { time, id } => Ok(format!(in alloc; "success {} {}", time.number(), id.0)?),
+        Call::StateOf { id } => Ok(format!(in alloc; "state {}", id.0)?),
         _ => Ok(format!(in alloc; "no line makes this call")?),
     }
 }
 
 /// A boot in words: its moment, workers, fingerprint and modules, and its calls, each behind its lane.
-fn boot_text(alloc: Global, boot: &ScriptBoot) -> Result<String, Fail> {
+pub fn boot_text(alloc: Global, boot: &ScriptBoot) -> Result<String, Fail> {
     let image = boot.order.image.get();
     let print = str::from_utf8(image.print.as_bytes())?;
     let mut text = format!(in alloc; "{} {} {print}", boot.order.time.number(), boot.workers)?;
     for part in image.modules.as_slice() {
         text.push_str(" ")?;
-        text.push_str(&module_text(alloc, part)?)?;
+        text.push_str(&module_text(alloc, &part.name, part.version)?)?;
     }
     for segment in boot.segments.as_slice() {
         text.push_str(";")?;
@@ -100,9 +116,10 @@ fn the_example_of_the_page_is_read(rt: HostRuntime) -> Result<(), Fail> {
     assert_eq!(rt; script.scale, Scale::Small);
     let boots = script.boots.as_slice();
     assert_eq!(rt; boots.len(), 2);
+    // {"name":"a","version":6} has 24 bytes, its line in the listing 84, and each file weighs 256 more.
     assert_eq!(rt;
         boot_text(rt.alloc(), &boots[0])?.as_str(),
-        "0 1 S1B2 a@5; 0 submit 7 false 0 a@6; 0 ready 7"
+        "0 1 S1B2 a@5; 0 submit 7 false 0 a@6/620; 0 ready 7"
     );
     assert_eq!(rt;
         boot_text(rt.alloc(), &boots[1])?.as_str(),
@@ -113,25 +130,50 @@ fn the_example_of_the_page_is_read(rt: HostRuntime) -> Result<(), Fail> {
 
 #[test]
 fn the_example_with_a_bad_line_is_refused(rt: HostRuntime) -> Result<(), Fail> {
+    let no_manifest = LineFault::BadModule {
+        fault: ModuleFault::NoManifest,
+    };
+    let no_version = LineFault::BadModule {
+        fault: ModuleFault::NoVersion,
+    };
     let table = [
         (2, "image S1B2", 2, LineFault::BadPlace),
         (2, "scale medium", 2, LineFault::BadWord { word: 2 }),
-        (4, "picture S1B2", 4, LineFault::UnknownWord),
-        (4, "# image S1B2", 5, LineFault::BadPlace),
-        (5, "pre a@05", 5, LineFault::BadWord { word: 2 }),
-        (5, "pre $m", 5, LineFault::NotYet),
-        (6, "boot 0", 6, LineFault::Words),
-        (6, "boot 0 65", 6, LineFault::BadWord { word: 3 }),
-        (6, "pre a@6", 6, LineFault::Twice),
+        (3, "module m-1", 3, LineFault::BadWord { word: 2 }),
+        (3, "# module m", 4, LineFault::BadPlace),
+        (4, "text", 4, LineFault::Words),
+        (4, "text ../a {}", 4, LineFault::BadWord { word: 2 }),
+        (4, "# no manifest", 10, no_manifest),
         (
-            7,
+            4,
+            "text apex_manifest.json {\"name\":\"a\"}",
+            10,
+            no_version,
+        ),
+        (5, "file bin/run", 5, LineFault::Words),
+        (5, "file bin/run 7f4", 5, LineFault::BadWord { word: 3 }),
+        (5, "pre $m", 5, LineFault::BadPlace),
+        (5, "module n", 5, LineFault::BadPlace),
+        (7, "# done", 9, LineFault::BadPlace),
+        (9, "picture S1B2", 9, LineFault::UnknownWord),
+        (9, "# image S1B2", 10, LineFault::BadPlace),
+        (10, "pre a@05", 10, LineFault::BadWord { word: 2 }),
+        (10, "pre $", 10, LineFault::BadWord { word: 2 }),
+        (10, "pre $n", 10, LineFault::NoLabel { word: 2 }),
+        (11, "boot 0", 11, LineFault::Words),
+        (11, "boot 0 65", 11, LineFault::BadWord { word: 3 }),
+        (11, "pre a@6", 11, LineFault::Twice),
+        (
+            12,
             "submit 4294967296 plain a@6",
-            7,
+            12,
             LineFault::BadWord { word: 2 },
         ),
-        (8, "submit 8 plain a@7", 8, LineFault::NotYet),
-        (9, "image S1B3", 9, LineFault::NotYet),
-        (9, "boot\t1000 4", 9, LineFault::BadByte),
+        (12, "submit 7 rollback a@6", 12, LineFault::NotYet),
+        (12, "submit 7 plain $n", 12, LineFault::NoLabel { word: 4 }),
+        (13, "image S1B3", 13, LineFault::NotYet),
+        (14, "boot\t1000 4", 14, LineFault::BadByte),
+        (15, "module n", 15, LineFault::Unended),
     ];
     for (number, other, line, fault) in table {
         let script = example_with(rt.alloc(), number, other)?;
@@ -152,7 +194,7 @@ fn a_script_is_read_past_comments_spaces_and_returns(rt: HostRuntime) -> Result<
     assert_eq!(rt; boots.len(), 2);
     assert_eq!(rt;
         boot_text(rt.alloc(), &boots[0])?.as_str(),
-        "0 1 P:1 a.B_2@7 c@9223372036854775807; 0 submit 4294967295 false 0 a.B_2@8; 0 ready 4294967295"
+        "0 1 P:1 a.B_2@7 c@9223372036854775807; 0 submit 4294967295 false 0 a.B_2@8/624; 0 ready 4294967295"
     );
     assert_eq!(rt;
         boot_text(rt.alloc(), &boots[1])?.as_str(),
@@ -172,7 +214,9 @@ fn a_fault_of_the_first_lines_is_told_of_its_line(rt: HostRuntime) {
         ("other \x7f", 1, LineFault::BadByte),
         ("Scale small", 1, LineFault::UnknownWord),
         ("\n#\n  \nother", 4, LineFault::UnknownWord),
-        ("module m", 1, LineFault::NotYet),
+        ("observer o none", 1, LineFault::NotYet),
+        ("module m", 1, LineFault::BadPlace),
+        ("done", 1, LineFault::BadPlace),
         ("image P", 1, LineFault::BadPlace),
         ("boot", 1, LineFault::BadPlace),
         ("scale small\nscale small", 2, LineFault::BadPlace),
@@ -187,6 +231,7 @@ fn a_fault_of_the_first_lines_is_told_of_its_line(rt: HostRuntime) {
         ("scale small small", 1, LineFault::Words),
         ("scale tiny", 1, LineFault::BadWord { word: 2 }),
         ("scale small\nimage", 2, LineFault::Words),
+        ("scale small\nimage P\nmodule m", 3, LineFault::Unended),
     ];
     for (text, line, fault) in table {
         let told = bad(line, fault);
@@ -198,11 +243,25 @@ fn a_fault_of_the_first_lines_is_told_of_its_line(rt: HostRuntime) {
 fn a_fault_behind_a_boot_is_told_of_its_line(rt: HostRuntime) -> Result<(), Fail> {
     let table = [
         ("submit 1 rollback a@2", LineFault::NotYet),
-        ("submit 1 plain $m", LineFault::NotYet),
+        ("submit 1 rollback", LineFault::NotYet),
+        ("image P", LineFault::NotYet),
+        ("observer", LineFault::NotYet),
+        ("file a", LineFault::BadPlace),
+        ("text", LineFault::BadPlace),
+        ("remove", LineFault::BadPlace),
+        ("seal now", LineFault::BadPlace),
+        ("done", LineFault::BadPlace),
+        ("module", LineFault::Words),
+        ("module m n", LineFault::Words),
+        ("abort", LineFault::Words),
+        ("abort 1 2", LineFault::Words),
+        ("state", LineFault::Words),
+        ("state 1 2", LineFault::Words),
         ("pre", LineFault::Words),
         ("submit 1 plain", LineFault::Words),
         ("submit 1 plain a@2 a@2", LineFault::Words),
         ("ready", LineFault::Words),
+        ("ready x y", LineFault::Words),
         ("success 0", LineFault::Words),
         ("pre a", LineFault::BadWord { word: 2 }),
         ("pre @1", LineFault::BadWord { word: 2 }),
@@ -221,6 +280,16 @@ fn a_fault_behind_a_boot_is_told_of_its_line(rt: HostRuntime) -> Result<(), Fail
         ("ready -1", LineFault::BadWord { word: 2 }),
         ("success 9007199254740992 1", LineFault::BadWord { word: 2 }),
         ("success 0 4294967296", LineFault::BadWord { word: 3 }),
+        ("abort 4294967296", LineFault::BadWord { word: 2 }),
+        ("state 01", LineFault::BadWord { word: 2 }),
+        ("module $m", LineFault::BadWord { word: 2 }),
+        ("pre $", LineFault::BadWord { word: 2 }),
+        ("pre $m@1", LineFault::BadWord { word: 2 }),
+        ("submit 1 plain $", LineFault::BadWord { word: 4 }),
+        ("submit 1 bold $m", LineFault::BadWord { word: 3 }),
+        ("submit x plain $m", LineFault::BadWord { word: 2 }),
+        ("pre $m", LineFault::NoLabel { word: 2 }),
+        ("submit 1 plain $m", LineFault::NoLabel { word: 4 }),
     ];
     for (text, fault) in table {
         let script = format!(in rt.alloc(); "{FOUR_LINES}{text}")?;
@@ -270,6 +339,9 @@ fn a_script_has_16777216_bytes_at_most(rt: HostRuntime) -> Result<(), Fail> {
 
 #[test]
 fn a_fault_prints_its_word(rt: HostRuntime) -> Result<(), Fail> {
+    let no_listing = LineFault::BadModule {
+        fault: ModuleFault::BadListing { line: 7 },
+    };
     let table = [
         (LineFault::TooLong, "too-long"),
         (LineFault::BadByte, "bad-byte"),
@@ -278,6 +350,8 @@ fn a_fault_prints_its_word(rt: HostRuntime) -> Result<(), Fail> {
         (LineFault::BadPlace, "bad-place"),
         (LineFault::Words, "words"),
         (LineFault::BadWord { word: 3 }, "bad-word 3"),
+        (LineFault::NoLabel { word: 4 }, "no-label 4"),
+        (no_listing, "bad-module bad-listing 7"),
         (LineFault::Twice, "twice"),
         (LineFault::Full, "full"),
         (LineFault::Unended, "unended"),

@@ -1,9 +1,10 @@
 //! The words of a line, and what single words say.
-ghost use Rattle.std.specs.Prelude.{◌≡◌, ◌==◌, ◌<◌, ◌≤◌, ◌∷◌, [], map, length, position, if◌then◌else◌, nat_le, MatchOption, IfSome, IfOk, Some, None};
+ghost use Rattle.std.specs.Prelude.{◌≡◌, ◌==◌, ◌<◌, ◌≤◌, ◌∷◌, [], map, length, position, if◌then◌else◌, nat_le, MatchOption, IfSome, IfOk, Some, None, option_map};
 ghost use Rattle.std.specs.List.{slice_split, list_all};
-ghost use Rattle.device_script.specs.Words.{words_of, is_digit, is_number, value_of, number_of, scale_of, id_of, time_of, workers_of, part_of, is_plain_kind};
+ghost use Rattle.device_script.specs.Words.{words_of, is_digit, is_number, value_of, number_of, scale_of, id_of, time_of, workers_of, content_of, short_of, part_of, is_plain_kind, cut_at_space, cut_word};
 
-use apex_base::{Millis, Module, Name, Scale, SessionId, Version};
+use apex_base::{Bytes, Listed, Millis, Name, Scale, SessionId, Version, cut_first};
+use hex::FromHexError;
 use std::alloc::{AllocError, Global};
 
 fn place_of(bytes: &[u8], separator: u8) -> Option<usize>
@@ -13,17 +14,36 @@ fn place_of(bytes: &[u8], separator: u8) -> Option<usize>
     bytes.iter().position(|b| *b == separator)
 }
 
-/// What stands before the first separator, and what stands behind it.
-pub fn cut_first(bytes: &[u8], separator: u8) -> Option<(&[u8], &[u8])>
-    ensures parts { MatchOption result
-        (slice_split (λ b. b == separator) bytes.now ≡ bytes.now ∷ [])
-        (λ p. slice_split (λ b. b == separator) bytes.now ≡ p.0.now ∷ slice_split (λ b. b == separator) p.1.now) }
-    ensures shorter { IfSome result (λ p. length p.1.now < length bytes.now) }
+/// How a word names a module.
+#[derive(Clone, Copy)]
+pub enum PartWord {
+    /// `NAME@VERSION`: the module of the short form.
+    Short { name: Name, version: Version },
+    /// `$LABEL`: the module of the last block of that label.
+    Label(Name),
+}
+
+/// What stands before the first space, and what stands behind it.
+fn cut_at_space(bytes: &[u8]) -> (&[u8], &[u8])
+    ensures { (result.0.now, result.1.now) ≡ cut_at_space bytes.now }
 {
-    match place_of(bytes, separator) {
-        None => None,
-        Some(at) => Some((&bytes[..at], &bytes[at + 1..])),
+    match place_of(bytes, b' ') {
+        None => (bytes, &bytes[bytes.len()..]),
+        Some(at) => (&bytes[..at], &bytes[at + 1..]),
     }
+}
+
+/// The first word, and what stands behind the one space that ends it; None where there is no word.
+pub fn cut_word(line: &[u8]) -> Option<(&[u8], &[u8])>
+    ensures cut { option_map (λ p. (p.0.now, p.1.now)) result ≡ cut_word line.now }
+    ensures words { MatchOption result (words_of line.now ≡ []) (λ p. words_of line.now ≡ p.0.now ∷ words_of p.1.now) }
+{
+    for (i, b) in line.iter().enumerate() {
+        if *b != b' ' {
+            return Some(cut_at_space(&line[i..]));
+        }
+    }
+    None
 }
 
 /// The words of a line, in order.
@@ -138,10 +158,24 @@ pub fn is_plain_kind(word: &[u8]) -> bool
     word == b"plain".as_slice()
 }
 
+/// The bytes that a word in hexadecimal spells, or none where it is a hyphen; None where it spells nothing.
+pub fn content(alloc: Global, word: &[u8]) -> Result<Option<Bytes>, AllocError>
+    ensures { IfOk result (λ content. content ≡ content_of word.now) }
+{
+    if word == b"-".as_slice() {
+        return Ok(Some(Listed::new(alloc)));
+    }
+    match hex::decode(alloc, word) {
+        Ok(bytes) => Ok(Some(Listed::of(bytes))),
+        Err(FromHexError::OutOfMemory) => Err(AllocError),
+        Err(_) => Ok(None),
+    }
+}
+
 /// `NAME@VERSION`.
-#[tactic(auto, unfolding(crate::specs::Words::part_of))]
-pub fn part(word: &[u8]) -> Option<Module>
-    ensures { result ≡ part_of word.now }
+#[tactic(auto, unfolding(crate::specs::Words::short_of))]
+fn short(word: &[u8]) -> Option<PartWord>
+    ensures { result ≡ short_of word.now }
 {
     let Some(at) = place_of(word, b'@') else {
         return None;
@@ -155,5 +189,23 @@ pub fn part(word: &[u8]) -> Option<Module>
     let Some(version) = Version::new(number) else {
         return None;
     };
-    Some(Module { name, version })
+    Some(PartWord::Short { name, version })
+}
+
+/// `$LABEL` or `NAME@VERSION`.
+pub fn part(word: &[u8]) -> Option<PartWord>
+    ensures { result ≡ part_of word.now }
+{
+    match word {
+        [] => None,
+        [first, label @ ..] => {
+            if *first != b'$' {
+                return short(word);
+            }
+            match Name::read(label) {
+                None => None,
+                Some(name) => Some(PartWord::Label(name)),
+            }
+        }
+    }
 }

@@ -1,5 +1,4 @@
 use Rattle.std.proofs.Common.{take, flat_map, Ok}
-use Rattle.std.specs.Prelude.{Result}
 use Rattle.apex_world.specs.Text.{pick_line}
 use Rattle.device_play.specs.Put.{HasPut}
 use Rattle.device_play.proofs.put.put_picks.Given as goal

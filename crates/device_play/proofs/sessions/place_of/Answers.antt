@@ -1,9 +1,8 @@
-use Rattle.std.proofs.Common.{◌≡◌, ◌<◌, ◌+◌, ◌∷◌, ◌++◌, Some, true, false, cond, eqb, ltb, length, take, drop, get_or, slice_get, sym, ap, ◌∙◌, refl, arith, add-one, eq-eqb}
+use Rattle.std.proofs.Common.{◌≡◌, ◌<◌, ◌+◌, ◌∷◌, ◌++◌, true, false, eqb, ltb, length, take, drop, sym, ap, ◌∙◌, refl, arith, add-one, eq-eqb}
 use Rattle.std.proofs.lemmas.Bool.Decides.{nat_tests}
 use Rattle.std.proofs.lemmas.List.{set_split}
 use Rattle.std.proofs.lemmas.Option.{slice_get_read}
-use Rattle.apex_base.specs.declared.records.Record.{Record}
-use Rattle.apex_world.specs.Step.{session_of, with_session}
+use Rattle.apex_world.specs.Sessions.{session_of, with_session}
 use Rattle.device_play.proofs.Search.{drop_here}
 use Rattle.device_play.proofs.sessions.place_of.Goals as goal
 

@@ -1,6 +1,6 @@
 use Rattle.std.proofs.Common.{◌≡◌, ◌++◌, take, drop}
 use Rattle.apex_base.specs.declared.records.Record.{Record}
-use Rattle.apex_world.specs.Step.{session_of, with_session}
+use Rattle.apex_world.specs.Sessions.{session_of, with_session}
 use Rattle.device_play.proofs.sessions.place_of.Given as goal
 
 -- the sessions so far have lesser ids

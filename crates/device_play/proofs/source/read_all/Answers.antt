@@ -1,4 +1,4 @@
-use Rattle.std.proofs.Common.{◌≡◌, ◌<◌, ◌+◌, arith}
+use Rattle.std.proofs.Common.{arith}
 use Rattle.device_play.proofs.Sources.{TakesAtMost-more, err_as}
 use Rattle.device_play.proofs.source.read_all.Goals as goal
 

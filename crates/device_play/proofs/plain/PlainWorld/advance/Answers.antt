@@ -1,21 +1,33 @@
-use Rattle.std.proofs.Common.{◌≡◌, ◌<◌, Some, length, get_or, slice_get, slice_set, sym, ap, ◌∙◌, refl}
+use Rattle.std.proofs.Common.{◌≡◌, ◌<◌, Some, length, slice_get, slice_set, sym, ap, ◌∙◌, refl}
 use Rattle.std.proofs.lemmas.Option.{slice_get_read}
 use Rattle.apex_base.specs.declared.records.Record.{Record}
 use Rattle.apex_base.specs.Moves.{moved}
-use Rattle.apex_world.specs.Step.{session_of, with_session}
+use Rattle.apex_world.specs.Step.{rollback_after}
+use Rattle.apex_world.specs.Sessions.{session_of, with_session}
+use Rattle.device_play.proofs.Bounds.{fits_moved}
 use Rattle.device_play.proofs.plain.PlainWorld.advance.Goals as goal
 
 pub returns-in-Some-clause-world : goal.returns-in-Some-clause-world
 returns-in-Some-clause-world c =
     let xs = c.args.self.now.sessions.items in
     let i = c.in-Ok.i in
-    let r = c.index_mut.result.now in
-    let s : Record = record r { state = c.in-Some.state } in
+    let r = c.index_mut-r.result.now in
+    let s : Record = record r { state = c.in-Some.state; rollback = rollback_after c.args.step r.rollback } in
     let place = rw c.deref.ensures.value at c.in-Ok.ensures.found in
     let lt : i < length xs = place.0 in
-    let here : slice_get xs i ≡ Some r = slice_get_read xs (length xs) i r refl lt c.index_mut.ensures.value in
+    let here : slice_get xs i ≡ Some r = slice_get_read xs (length xs) i r refl lt c.index_mut-r.ensures.value in
     let same : c.index.result.now ≡ r = cc (c.index.ensures, slice_get_read xs (length xs) i c.index.result.now refl lt c.index.ensures, here) in
     let found : session_of xs c.args.id ≡ Some r = place.1 ∙ here in
     let goes : moved r.state c.args.step ≡ Some c.in-Some.state = ap (λ (q : Record). moved q.state c.args.step) (sym same) ∙ sym c.moved.ensures ∙ c.in-Some.is in
     let put : with_session s xs ≡ slice_set xs i s = (rw c.deref.ensures.value at c.in-Ok.ensures.place) s ((rw c.deref.ensures.value at c.in-Ok.ensures.id) r here) in
-    rw (found, goes, put) refl
+    rw (found, goes, put, c.rollback_after-r.ensures) refl
+
+pub returns-in-Some-clause-fits : goal.returns-in-Some-clause-fits
+returns-in-Some-clause-fits c =
+    let xs = c.args.self.now.sessions.items in
+    let i = c.in-Ok.i in
+    let r = c.index_mut-r.result.now in
+    let place = rw c.deref.ensures.value at c.in-Ok.ensures.found in
+    let lt : i < length xs = place.0 in
+    let here : slice_get xs i ≡ Some r = slice_get_read xs (length xs) i r refl lt c.index_mut-r.ensures.value in
+    fits_moved c.args.self.now _ i r _ here refl refl refl refl c.requires

@@ -1,4 +1,4 @@
-use Rattle.std.proofs.Common.{◌≡◌, ◌<◌, ◌+◌, ◌^◌, ◌∙◌, length, ap, sym, subst, refl, arith}
+use Rattle.std.proofs.Common.{◌<◌, ◌+◌, ◌^◌, ◌∙◌, length, ap, sym, subst, refl, arith}
 use Rattle.apex_world.specs.Playable.{IsPlayableBoot}
 use Rattle.device_play.proofs.Puts.{faults_more}
 use Rattle.device_play.proofs.Runs.{Stopped-at, Went-next, ran_err, boots_plan_at, boots_plan_next}
@@ -25,4 +25,5 @@ loop-boot-preserved g c =
       count = omega arith;
       counted = c.in_ok-play_boot_and_calls.ensures.boots refl ∙ ap (λ k. k + 1) c.loop-boot.invariant.counted;
       faults = faults_more _ _ _ _ _ c.loop-boot.invariant.faults c.in_ok-play_boot_and_calls.ensures.faults;
+      fits = c.in_ok-play_boot_and_calls.ensures.fits refl;
     }

@@ -1,4 +1,5 @@
 use Rattle.std.proofs.Common.{◌≡◌, take, Ok}
+use Rattle.device_play.specs.Plain.{Fits}
 use Rattle.device_play.specs.Put.{HasSinkCause}
 use Rattle.device_play.specs.Run.{Went, boots_plan}
 use Rattle.device_play.specs.Stages.{stage_of}
@@ -11,4 +12,5 @@ invariant-loop-boot g l = record {
   count : l.number ≡ l.boot-index;
   counted : l.self.world.boots ≡ l.boot-index;
   faults : HasSinkCause {T = Unit {0}} (Ok tt) (g.K.Sink.faults l.fn.sink) (g.K.Sink.faults l.sink);
+  fits : Fits l.self.world;
 }

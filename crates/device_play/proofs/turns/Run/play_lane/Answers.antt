@@ -1,4 +1,4 @@
-use Rattle.std.proofs.Common.{◌≡◌, ◌<◌, ◌+◌, ◌∙◌, get_or, length, ap, arith}
+use Rattle.std.proofs.Common.{refl, ◌≡◌, ◌<◌, ◌+◌, ◌∙◌, get_or, length, ap, arith}
 use Rattle.device_play.proofs.Puts.{faults_more}
 use Rattle.device_play.proofs.Runs.{Stopped-at, Went-next, ran_err, call_plan_at, call_plan_next}
 use Rattle.device_play.proofs.turns.Run.play_lane.Goals as goal
@@ -25,4 +25,5 @@ loop-call-preserved g c =
       count = omega arith;
       faults = faults_more _ _ _ _ _ c.loop-call.invariant.faults c.in_ok-play_call.ensures.faults;
       boots = c.in_ok-play_call.ensures.boots ∙ c.loop-call.invariant.boots;
+      fits = c.in_ok-play_call.ensures.fits refl;
     }

@@ -1,4 +1,5 @@
 use Rattle.std.proofs.Common.{◌≡◌, ◌+◌, take, Ok}
+use Rattle.device_play.specs.Plain.{Fits}
 use Rattle.device_play.specs.Put.{HasSinkCause}
 use Rattle.device_play.specs.Run.{Went, call_plan}
 use Rattle.device_play.specs.Stages.{stage_of}
@@ -11,4 +12,5 @@ invariant-loop-call g l = record {
   count : l.step ≡ l.behind + l.call-index;
   faults : HasSinkCause {T = Unit {0}} (Ok tt) (g.K.Sink.faults l.fn.sink) (g.K.Sink.faults l.sink);
   boots : l.self.world.boots ≡ l.fn.self.world.boots;
+  fits : Fits l.self.world;
 }

@@ -1,4 +1,4 @@
-use Rattle.device_play.proofs.PlayedLemmas.{IsFresh, played_err, played_end}
+use Rattle.device_play.proofs.PlayedLemmas.{played_err, played_end}
 use Rattle.device_play.proofs.turns.Run.play_script.Goals as goal
 
 pub returns-in_err-play_boots-clause-played : goal.returns-in_err-play_boots-clause-played

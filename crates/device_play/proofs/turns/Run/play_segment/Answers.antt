@@ -1,7 +1,4 @@
-use Rattle.std.proofs.Common.{◌≡◌, ◌<◌, ◌≤◌, ◌+◌, ◌++◌, ◌∷◌, [], ◌∙◌, ◌^◌, length, get_or, set, take, sym, ap, subst, append_assoc, arith}
-use Rattle.apex_world.specs.Playable.{IsPlayableLane}
-use Rattle.apex_world.specs.Turns.{lane_calls}
-use Rattle.device_play.specs.Run.{call_plan}
+use Rattle.std.proofs.Common.{refl, ◌≡◌, ◌<◌, ◌≤◌, ◌+◌, ◌++◌, ◌∷◌, [], ◌∙◌, ◌^◌, length, get_or, set, take, sym, ap, subst, append_assoc, arith}
 use Rattle.device_play.specs.Stages.{blocks_before, HasCounts}
 use Rattle.device_play.proofs.Counts.{counts_few, counts_more, lane_playable}
 use Rattle.device_play.proofs.Puts.{faults_more}
@@ -73,4 +70,5 @@ loop-lane-preserved g c =
       counts = subst (HasCounts (set steps l.number k)) (sym blocks) (counts_more steps (e ++ take j s.lanes) l k c.loop-lane.invariant.counts low is);
       faults = faults_more _ _ _ _ _ c.loop-lane.invariant.faults c.in_ok-play_lane.ensures.faults;
       boots = c.in_ok-play_lane.ensures.boots ∙ c.loop-lane.invariant.boots;
+      fits = c.in_ok-play_lane.ensures.fits refl;
     }

@@ -1,4 +1,5 @@
 use Rattle.std.proofs.Common.{◌≡◌, ◌++◌, take, Ok}
+use Rattle.device_play.specs.Plain.{Fits}
 use Rattle.device_play.specs.Put.{HasSinkCause}
 use Rattle.device_play.specs.Run.{Went, block_plan}
 use Rattle.device_play.specs.Stages.{stage_of, blocks_before, HasCounts}
@@ -11,4 +12,5 @@ invariant-loop-lane g l = record {
   counts : HasCounts l.steps (blocks_before l.boot l.at ++ take l.lane-index l.segment.lanes);
   faults : HasSinkCause {T = Unit {0}} (Ok tt) (g.K.Sink.faults l.fn.sink) (g.K.Sink.faults l.sink);
   boots : l.self.world.boots ≡ l.fn.self.world.boots;
+  fits : Fits l.self.world;
 }

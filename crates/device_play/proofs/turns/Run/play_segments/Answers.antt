@@ -1,4 +1,4 @@
-use Rattle.std.proofs.Common.{◌≡◌, ◌<◌, ◌+◌, ◌∙◌, length, get_or, ap, refl, arith}
+use Rattle.std.proofs.Common.{◌≡◌, ◌<◌, ◌∙◌, length, get_or, ap, refl, arith}
 use Rattle.device_play.proofs.Puts.{faults_more}
 use Rattle.device_play.proofs.Runs.{Stopped-at, Went-next, ran_err, segment_plan_at, segment_plan_next}
 use Rattle.device_play.proofs.turns.Run.play_segments.Goals as goal
@@ -25,4 +25,5 @@ loop-at-preserved g c =
       counts = c.in_ok-play_segment.ensures.counts refl;
       faults = faults_more _ _ _ _ _ c.loop-at.invariant.faults c.in_ok-play_segment.ensures.faults;
       boots = c.in_ok-play_segment.ensures.boots ∙ c.loop-at.invariant.boots;
+      fits = c.in_ok-play_segment.ensures.fits refl;
     }

@@ -1,6 +1,0 @@
-use Rattle.std.proofs.Common.{refl}
-use Rattle.apex_base.proofs.PaddedLemmas.{IsPadded-front}
-use Rattle.apex_base.proofs.text.ShortText.of.Goals as goal
-
-pub invariant_of-result : goal.invariant_of-result
-invariant_of-result c = rw c.copy_from_slice.ensures.after (IsPadded-front _ _ c.requires refl)

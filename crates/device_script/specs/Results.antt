@@ -1,7 +1,0 @@
--- Steps of reading, one after another: the first fault is the line's.
-use Rattle.std.specs.Prelude.{Result, Ok, Err}
-
-infixl 10 ◌>>=◌
-abbrev pub ◌>>=◌ : {A B E : Type 0} → Result A E → (A → Result B E) → Result B E
-Ok x >>= next = next x
-Err e >>= next = Err e

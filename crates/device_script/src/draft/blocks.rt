@@ -1,0 +1,59 @@
+//! What the lines of module blocks make of a draft.
+use super::Draft;
+use crate::fault::{LineError, LineFault};
+use apex_base::{Bytes, FilePath};
+use apex_world::SharedModule;
+use std::alloc::Global;
+
+impl Draft {
+    ghost use Rattle.device_script.specs.Draft.{file_taken, remove_taken, seal_taken, done_taken};
+    ghost use Rattle.device_script.specs.Taking.{Takes};
+
+    /// A file is written or replaced in the open block.
+    pub(super) fn take_file(&mut self, path: FilePath, content: Bytes) -> Result<(), LineError>
+        ensures { Takes result self.new (file_taken self.old path content self.old.block) }
+    {
+        let Some(mut block) = self.block.take() else {
+            return Err(LineError::Fault(LineFault::BadPlace));
+        };
+        block.put(path, content)?;
+        self.block = Some(block);
+        Ok(())
+    }
+
+    /// A file of the open block is removed, if there is one.
+    pub(super) fn take_remove(&mut self, path: &FilePath) -> Result<(), LineError>
+        ensures { Takes result self.new (remove_taken self.old path.now self.old.block) }
+    {
+        let Some(mut block) = self.block.take() else {
+            return Err(LineError::Fault(LineFault::BadPlace));
+        };
+        block.remove(path);
+        self.block = Some(block);
+        Ok(())
+    }
+
+    /// The listing of the open block is written or replaced.
+    pub(super) fn take_seal(&mut self, alloc: Global) -> Result<(), LineError>
+        ensures { Takes result self.new (seal_taken self.old self.old.block) }
+    {
+        let Some(mut block) = self.block.take() else {
+            return Err(LineError::Fault(LineFault::BadPlace));
+        };
+        block.seal(alloc)?;
+        self.block = Some(block);
+        Ok(())
+    }
+
+    /// The block ends, and its label stands for its module from now on.
+    pub(super) fn take_done(&mut self, alloc: Global) -> Result<(), LineError>
+        ensures { Takes result self.new (done_taken self.old self.old.block) }
+    {
+        let Some(block) = self.block.take() else {
+            return Err(LineError::Fault(LineFault::BadPlace));
+        };
+        let module = SharedModule::of(alloc, block.content)?;
+        self.labels.put(block.label, module)?;
+        Ok(())
+    }
+}

@@ -1,0 +1,160 @@
+//! What lines outside blocks make of a draft: its image, its boots and their calls.
+ghost use Rattle.std.specs.Prelude.{◌≡◌, IfOk};
+ghost use Rattle.device_script.specs.Draft.{plain_segment};
+
+use super::Draft;
+use crate::fault::{LineError, LineFault};
+use crate::image::{image_with, package_of};
+use crate::words::PartWord;
+use apex_base::{Listed, Millis, Print, Scale, SessionId, Shared};
+use apex_world::{BootOrder, Call, Image, Lane, ScriptBoot, Segment, SharedModule};
+use std::alloc::{AllocError, Global};
+
+/// A segment of one call outside lane blocks.
+fn plain_segment(alloc: Global, call: Call) -> Result<Segment, AllocError>
+    ensures { IfOk result (λ segment. segment ≡ plain_segment call) }
+{
+    let calls = Listed::one(alloc, call)?;
+    let lanes = Listed::one(alloc, Lane { number: 0, calls })?;
+    Ok(Segment { cut: None, lanes })
+}
+
+impl Draft {
+    ghost use Rattle.std.specs.Prelude.{◌≡◌, OnOk};
+    ghost use Rattle.device_script.specs.Draft.{closed, scale_taken, image_taken, pre_taken, boot_taken, call_taken, submit_taken};
+    ghost use Rattle.device_script.specs.Images.{module_named};
+    ghost use Rattle.device_script.specs.Taking.{Takes, Gives};
+
+    /// The module that a part names in the word of that number.
+    fn module_named(
+        &self,
+        alloc: Global,
+        word: u32,
+        part: &PartWord,
+    ) -> Result<SharedModule, LineError>
+        ensures { Gives result (module_named self.now.labels word part.now) }
+    {
+        match part {
+            PartWord::Short { name, version } => Ok(SharedModule::short(*name, *version)),
+            PartWord::Label(name) => match self.labels.get(name) {
+                None => Err(LineError::Fault(LineFault::NoLabel { word })),
+                Some(module) => Ok(module.share()?),
+            },
+        }
+    }
+
+    /// The scale stands.
+    pub(super) fn take_scale(&mut self, scale: Scale) -> Result<(), LineError>
+        ensures { Takes result self.new (scale_taken self.old scale self.old.scale) }
+    {
+        if self.scale.is_some() {
+            return Err(LineError::Fault(LineFault::BadPlace));
+        }
+        self.scale = Some(scale);
+        Ok(())
+    }
+
+    /// A new image without modules.
+    pub(super) fn take_image(&mut self, alloc: Global, print: Print) -> Result<(), LineError>
+        ensures { Takes result self.new (image_taken self.old print) }
+    {
+        let modules = Listed::new(alloc);
+        self.image = Some(Shared::new(alloc, Image { print, modules })?);
+        Ok(())
+    }
+
+    #[tactic(auto, unfolding(crate::specs::Draft::pre_taken))]
+    pub(super) fn take_pre(&mut self, alloc: Global, part: &PartWord) -> Result<(), LineError>
+        ensures { Takes result self.new (pre_taken self.old part.now self.old.scale self.old.image) }
+    {
+        let Some(scale) = self.scale else {
+            return Err(LineError::Fault(LineFault::BadPlace));
+        };
+        let Some(image) = self.image.take() else {
+            return Err(LineError::Fault(LineFault::BadPlace));
+        };
+        let module = self.module_named(alloc, 2, part)?;
+        let module = package_of(alloc, module)?;
+        self.image = Some(image_with(alloc, scale, image, module)?);
+        Ok(())
+    }
+
+    /// The boot that calls joined joins the boots that are done.
+    pub(super) fn close(&mut self) -> Result<(), AllocError>
+        ensures closed { OnOk result (self.new.boots ≡ closed self.old) }
+        ensures rest { OnOk result (self.new ≡ record self.old { boots = self.new.boots; current = self.new.current }) }
+    {
+        if let Some(boot) = self.current.take() {
+            self.boots.push(boot)?;
+        }
+        Ok(())
+    }
+
+    /// A boot of the last image.
+    pub(super) fn take_boot(
+        &mut self,
+        alloc: Global,
+        time: Millis,
+        workers: u32,
+    ) -> Result<(), LineError>
+        ensures { Takes result self.new (boot_taken self.old time workers self.old.scale self.old.image) }
+    {
+        let Some(scale) = self.scale else {
+            return Err(LineError::Fault(LineFault::BadPlace));
+        };
+        let image = match &self.image {
+            None => return Err(LineError::Fault(LineFault::BadPlace)),
+            Some(image) => image.share()?,
+        };
+        self.close()?;
+        let observers = Listed::new(alloc);
+        self.current = Some(ScriptBoot {
+            order: BootOrder {
+                scale,
+                image,
+                observers,
+                time,
+            },
+            mounts: Listed::new(alloc),
+            workers,
+            cut: None,
+            segments: Listed::new(alloc),
+        });
+        Ok(())
+    }
+
+    /// A call behind the last boot.
+    pub(super) fn take_call(&mut self, alloc: Global, call: Call) -> Result<(), LineError>
+        ensures { Takes result self.new (call_taken self.old call self.old.current) }
+    {
+        let Some(mut boot) = self.current.take() else {
+            return Err(LineError::Fault(LineFault::BadPlace));
+        };
+        boot.segments.push(plain_segment(alloc, call)?)?;
+        self.current = Some(boot);
+        Ok(())
+    }
+
+    #[tactic(auto, unfolding(crate::specs::Draft::submit_taken))]
+    pub(super) fn take_submit(
+        &mut self,
+        alloc: Global,
+        id: SessionId,
+        part: &PartWord,
+    ) -> Result<(), LineError>
+        ensures { Takes result self.new (submit_taken self.old id part.now) }
+    {
+        let module = self.module_named(alloc, 4, part)?;
+        let parts = Listed::one(alloc, module)?;
+        let children = Listed::new(alloc);
+        self.take_call(
+            alloc,
+            Call::Submit {
+                id,
+                children,
+                rollback: false,
+                parts,
+            },
+        )
+    }
+}
