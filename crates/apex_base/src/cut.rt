@@ -2,7 +2,8 @@
 ghost use Rattle.std.specs.Prelude.{◌≡◌, ◌==◌, ◌<◌, ◌∷◌, [], length, position, MatchOption, IfSome};
 ghost use Rattle.std.specs.List.{slice_split};
 
-fn place_of(bytes: &[u8], separator: u8) -> Option<usize>
+/// Where the first separator stands; None where there is none.
+pub fn place_of(bytes: &[u8], separator: u8) -> Option<usize>
     ensures place { result ≡ position (λ b. b == separator) bytes.now }
     ensures within { IfSome result (λ i. i < length bytes.now) }
 {

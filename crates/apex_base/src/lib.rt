@@ -18,7 +18,7 @@ mod shared;
 mod tests;
 mod text;
 
-pub use cut::cut_first;
+pub use cut::{cut_first, place_of};
 pub use fault::ModuleFault;
 pub use listed::Listed;
 pub use memory::{MemSink, MemSource};

@@ -5,19 +5,8 @@ ghost use Rattle.apex_world.specs.Text.{fault_text};
 
 use crate::lines::{push_word_number, push_words};
 use apex_base::ModuleFault;
-use hex::encode_to_slice;
+use module_digest::digits_of;
 use std::alloc::AllocError;
-
-/// 32 bytes as 64 hexadecimal digits.
-fn digits_of(digest: &[u8; 32]) -> [u8; 64]
-    ensures { result ≡ encode_lower digest.now }
-{
-    let mut digits = [0; 64];
-    match encode_to_slice(digest, &mut digits) {
-        Ok(()) => digits,
-        Err(_) => unreachable!(),
-    }
-}
 
 /// A space, and a digest.
 fn push_digest(line: &mut Vec<u8>, digest: &[u8; 32]) -> Result<(), AllocError>

@@ -3,16 +3,9 @@ ghost use Rattle.std.specs.Prelude.{◌≡◌, ◌==◌, ◌<◌, ◌≤◌, ◌
 ghost use Rattle.std.specs.List.{slice_split, list_all};
 ghost use Rattle.device_script.specs.Words.{words_of, is_digit, is_number, value_of, number_of, scale_of, id_of, time_of, workers_of, content_of, short_of, part_of, is_plain_kind, cut_at_space, cut_word};
 
-use apex_base::{Bytes, Listed, Millis, Name, Scale, SessionId, Version, cut_first};
+use apex_base::{Bytes, Listed, Millis, Name, Scale, SessionId, Version, cut_first, place_of};
 use hex::FromHexError;
 use std::alloc::{AllocError, Global};
-
-fn place_of(bytes: &[u8], separator: u8) -> Option<usize>
-    ensures place { result ≡ position (λ b. b == separator) bytes.now }
-    ensures within { IfSome result (λ i. i < length bytes.now) }
-{
-    bytes.iter().position(|b| *b == separator)
-}
 
 /// How a word names a module.
 #[derive(Clone, Copy)]

@@ -38,7 +38,7 @@ pub fn digest_of(content: &[u8]) -> [u8; 32]
     Sha256::digest(content)
 }
 
-/// A digest's 64 digits.
+/// A digest's 64 hexadecimal digits, letters in lower case.
 pub fn digits_of(digest: &[u8; 32]) -> [u8; 64]
     ensures { result ≡ encode_lower digest.now }
 {

@@ -11,5 +11,6 @@ mod tests;
 mod told;
 
 pub use checks::{CheckWhy, check_listing};
+pub use digits::digits_of;
 pub use laws::sound_listing_is_the_listing;
 pub use sealing::{listing, seal};
