@@ -1,0 +1,5 @@
+pub mod Moments
+pub mod Written
+mod Kept
+mod Picks
+mod Ranges

@@ -1,0 +1,9 @@
+mod Appends
+mod Fresh
+mod Gates
+mod Halves
+mod Heads
+mod Once
+mod Opened
+mod Told
+mod Torn

@@ -1,0 +1,5 @@
+use Rattle.row_codec.proofs.Batches.{batch_again}
+use Rattle.row_codec.proofs.laws.reading_undoes_spelling.Goals as goal
+
+pub returns : goal.returns
+returns c = batch_again
