@@ -1,6 +1,7 @@
 //! The plain types of the module manager, and the traits of what stands outside it.
 #![tactic(auto)]
 
+mod boxed;
 mod cut;
 mod fault;
 mod listed;
@@ -18,7 +19,8 @@ mod shared;
 mod tests;
 mod text;
 
-pub use cut::{cut_first, place_of};
+pub use boxed::Boxed;
+pub use cut::{cut_first, place_in_word, place_of};
 pub use fault::ModuleFault;
 pub use listed::Listed;
 pub use memory::{MemSink, MemSource};

@@ -73,7 +73,7 @@ impl Module {
     fn put_fault(&self, path: &FilePath, bytes: &[u8]) -> Option<PutWhy>
         ensures { result ≡ put_fault self.now path.now bytes.now }
     {
-        if self.lacks(path) && self.len() >= FILES {
+        if self.len() >= FILES && self.lacks(path) {
             return Some(PutWhy::Files);
         }
         if bytes.len() > LENGTH {

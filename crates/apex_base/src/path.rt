@@ -6,7 +6,7 @@ ghost use Rattle.std.specs.Cmp;
 ghost use Rattle.std.specs.Cmp.Lexicographic.{slice_cmp, pointwise, nat_list_eq_equiv, nat_list_cmp_total, texts_ties, texts_po};
 ghost use Rattle.apex_base.specs.Text.{is_path, is_segment, path_of};
 
-use crate::cut::cut_first;
+use crate::cut::cut_first_in_word;
 use crate::padded::ShortText;
 use crate::text::all_print_bytes;
 use std::cmp::Ordering;
@@ -55,7 +55,7 @@ fn all_segments(bytes: &[u8]) -> bool
     ensures { result ≡ list_all is_segment (slice_split (λ b. b == 47) bytes.now) }
 {
     let mut rest = bytes;
-    while let Some((segment, behind)) = cut_first(rest, b'/') {
+    while let Some((segment, behind)) = cut_first_in_word(rest, b'/') {
         if !is_segment(segment) {
             return false;
         }

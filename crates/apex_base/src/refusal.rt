@@ -1,8 +1,8 @@
 //! Why a call is refused, with the values that a person would ask for next.
-use crate::{ModuleFault, Name, RollbackState, SessionId, State, Version};
+use crate::{Boxed, ModuleFault, Name, RollbackState, SessionId, State, Version};
 
 /// The causes, in the order in which a call's checks name them. A refusal changes nothing.
-#[derive(Clone, Copy)]
+#[derive(Drop)]
 pub enum Refusal {
     IdRange {
         id: SessionId,
@@ -13,10 +13,10 @@ pub enum Refusal {
     Parts {
         count: u32,
     },
-    /// `part` is counted from 1.
+    /// `part` is counted from 1. The fault stands in memory of its own, since it may hold a path and two digests.
     Module {
         part: u32,
-        fault: ModuleFault,
+        fault: Boxed<ModuleFault>,
     },
     TwiceNamed {
         name: Name,

@@ -16,7 +16,7 @@ const CAPACITY: usize = 64;
 fn is_name_byte(b: u8) -> bool
     ensures { result ≡ is_name_byte b }
 {
-    b.is_ascii_uppercase() || b.is_ascii_lowercase() || b.is_ascii_digit() || b == b'_' || b == b'.'
+    b.is_ascii_uppercase() | b.is_ascii_lowercase() | b.is_ascii_digit() | (b == b'_') | (b == b'.')
 }
 
 fn is_print_byte(b: u8) -> bool
@@ -25,17 +25,26 @@ fn is_print_byte(b: u8) -> bool
     b.is_ascii_graphic()
 }
 
+/// Whether all bytes may stand in a name. The loop has no early exit, so that it looks at many bytes at a time.
 fn all_name_bytes(bytes: &[u8]) -> bool
     ensures { result ≡ list_all is_name_byte bytes.now }
 {
-    bytes.iter().all(|b| is_name_byte(*b))
+    let mut all = true;
+    for b in bytes {
+        all = all & is_name_byte(*b);
+    }
+    all
 }
 
 /// Whether all bytes are printable ones that are no space.
 pub fn all_print_bytes(bytes: &[u8]) -> bool
     ensures { result ≡ list_all is_print_byte bytes.now }
 {
-    bytes.iter().all(|b| is_print_byte(*b))
+    let mut all = true;
+    for b in bytes {
+        all = all & is_print_byte(*b);
+    }
+    all
 }
 
 #[tactic(auto, unfolding(crate::specs::Text::is_short_text))]

@@ -1,9 +1,12 @@
 pub mod Boot
+pub mod Calls
 pub mod Fold
 pub mod Forms
 pub mod Limits
+pub mod Orders
 pub mod Playable
 pub mod Selection
+pub mod Segments
 pub mod Sessions
 pub mod Soundness
 pub mod Step

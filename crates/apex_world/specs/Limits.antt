@@ -22,7 +22,7 @@ units_of sessions = sum_by (λ r. kind_units r.kind) sessions
 
 -- the weight of a module that is among the targets
 abbrev pub target_weight : List Target → Submission → ℕ
-target_weight targets s = if is_target targets s.session s.part then module_weight s.content.content else 0
+target_weight targets s = if is_target targets s.session s.part then module_weight s.content else 0
 
 -- the weight of the modules that are kept
 abbrev pub weight_of : List Record → List Submission → ℕ

@@ -1,6 +1,6 @@
 -- What a script that was read has: docs/formats/script.md, "Bounds".
-use Rattle.std.specs.Prelude.{◌≡◌, false, [], ℕ, ◌^◌, ◌<◌, ◌≤◌, length, flat_map}
-use Rattle.std.specs.List.{All}
+use Rattle.std.specs.Prelude.{◌≡◌, ◌≢◌, false, [], ℕ, ◌^◌, ◌<◌, ◌≤◌, length, flat_map}
+use Rattle.std.specs.List.{All, AllPairs}
 use Rattle.apex_world.specs.declared.calls.Call.{Call}
 use Rattle.apex_world.specs.declared.calls.Call.TheVariants as calls
 use Rattle.apex_world.specs.declared.script.Lane.{Lane}
@@ -29,8 +29,10 @@ pub record IsPlayableLane (lane : Lane) : Type 0 where
   pub number : lane.number ≤ 8
   pub calls : All IsBuilt lane.calls
 
-abbrev pub IsPlayableSegment : Segment → Type 0
-IsPlayableSegment segment = All IsPlayableLane segment.lanes
+-- each lane number stands once in a segment
+pub record IsPlayableSegment (segment : Segment) : Type 0 where
+  pub numbers : AllPairs (λ a b. a.number ≢ b.number) segment.lanes
+  pub lanes : All IsPlayableLane segment.lanes
 
 -- each lane has fewer steps since the boot than a bound
 pub record IsPlayableBoot (bound : ℕ) (boot : ScriptBoot) : Type 0 where

@@ -19,6 +19,7 @@ use Rattle.apex_base.specs.declared.records.Cause.TheVariants as causes
 use Rattle.apex_base.specs.declared.records.Target.{Target}
 use Rattle.apex_base.specs.declared.records.Target.TheVariants as targets
 use Rattle.apex_base.specs.Held.{held}
+use Rattle.apex_base.specs.Modules.{FileMap}
 use Rattle.apex_world.specs.declared.modules.Package.{Package}
 use Rattle.apex_world.specs.declared.world.Submission.{Submission}
 use Rattle.apex_world.specs.Soundness.{is_sound, is_same_key}
@@ -32,7 +33,7 @@ abbrev pub preinstalled : List Package → List ℕ → Option Package
 preinstalled modules name = find (λ m. bytes_eq m.name name) modules
 
 -- the module that a part of a session submitted
-abbrev pub submitted_by : List Submission → SessionId → ℕ → Option Package
+abbrev pub submitted_by : List Submission → SessionId → ℕ → Option FileMap
 submitted_by modules session part = option_map (λ s. s.content) (find (λ s. (s.session.0 == session.0) && (s.part == part)) modules)
 
 -- why the preinstalled module doesn't work, by the first case that holds
@@ -40,16 +41,16 @@ abbrev pub preinstalled_case : Mounts → Package → Option Case
 preinstalled_case mounts m = if not (is_sound m.content) then Some Unsound else (if mounts m.name m.version Pre then None else Some NoMount)
 
 -- why a data module of a version doesn't work beside the preinstalled one
-abbrev pub data_case : Mounts → Package → ℕ → Package → Option Case
+abbrev pub data_case : Mounts → FileMap → ℕ → Package → Option Case
 data_case mounts given version m =
     if nat_lt version m.version then Some BelowPreinstalled
-    else (if not (is_same_key given.content m.content) then Some KeyDiffers
-    else (if not (is_sound given.content) then Some Unsound
+    else (if not (is_same_key given m.content) then Some KeyDiffers
+    else (if not (is_sound given) then Some Unsound
     else (if mounts m.name version Data then None
     else Some NoMount)))
 
 -- a module that nobody submitted is none
-abbrev pub submitted_case : Mounts → Option Package → ℕ → Package → Option Case
+abbrev pub submitted_case : Mounts → Option FileMap → ℕ → Package → Option Case
 submitted_case mounts None version m = Some Unsound
 submitted_case mounts (Some given) version m = data_case mounts given version m
 

@@ -143,7 +143,7 @@ parts_from id k (p ∷ ps) = record { name = p.name; version = Some p.version; t
 -- their modules
 abbrev pub submissions_from : SessionId → ℕ → List Package → List Submission
 submissions_from id k [] = []
-submissions_from id k (p ∷ ps) = record { session = id; part = k; content = p } ∷ submissions_from id (k + 1) ps
+submissions_from id k (p ∷ ps) = record { session = id; part = k; content = p.content } ∷ submissions_from id (k + 1) ps
 
 abbrev pub kind_of : Bool → Kind
 kind_of true = WithRollback

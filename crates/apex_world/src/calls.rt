@@ -1,5 +1,8 @@
 //! Calls and boots, and what they answer.
-use crate::modules::{ModuleList, PackageList};
+ghost use Rattle.std.specs.Prelude.{◌≡◌};
+ghost use Rattle.apex_world.specs.Calls.{call_at};
+
+use crate::modules::{ModuleList, PackageList, SharedModule};
 use apex_base::{
     Bytes, Cause, Level, Listed, Millis, Name, Pick, Print, Reason, Refusal, RollbackState, Scale,
     SessionId, Shared, State,
@@ -61,6 +64,111 @@ pub enum Call {
         name: Name,
         reason: Reason,
     },
+}
+
+/// A call where it stands: what it holds is borrowed.
+#[derive(Clone, Copy)]
+pub enum CallRef<'a> {
+    Submit {
+        id: SessionId,
+        children: &'a [SessionId],
+        rollback: bool,
+        parts: &'a [SharedModule],
+    },
+    Ready {
+        id: SessionId,
+    },
+    Abort {
+        id: SessionId,
+    },
+    Success {
+        time: Millis,
+        id: SessionId,
+    },
+    Revert,
+    Commit {
+        id: SessionId,
+    },
+    Put {
+        name: &'a Name,
+        key: &'a Name,
+        value: &'a [u8],
+    },
+    Drop {
+        name: &'a Name,
+        key: &'a Name,
+    },
+    Get {
+        name: &'a Name,
+        key: &'a Name,
+    },
+    StateOf {
+        id: SessionId,
+    },
+    Watch {
+        time: Millis,
+        observer: &'a Name,
+        duration: Millis,
+        names: &'a [Name],
+    },
+    Report {
+        time: Millis,
+        name: &'a Name,
+        reason: Reason,
+    },
+}
+
+impl Call {
+    /// The call where it stands.
+    pub fn borrowed(&self) -> CallRef<'_>
+        ensures { call_at result ≡ self.now }
+    {
+        match self {
+            Call::Submit {
+                id,
+                children,
+                rollback,
+                parts,
+            } => CallRef::Submit {
+                id: *id,
+                children: children.as_slice(),
+                rollback: *rollback,
+                parts: parts.as_slice(),
+            },
+            Call::Ready { id } => CallRef::Ready { id: *id },
+            Call::Abort { id } => CallRef::Abort { id: *id },
+            Call::Success { time, id } => CallRef::Success {
+                time: *time,
+                id: *id,
+            },
+            Call::Revert => CallRef::Revert,
+            Call::Commit { id } => CallRef::Commit { id: *id },
+            Call::Put { name, key, value } => CallRef::Put {
+                name,
+                key,
+                value: value.as_slice(),
+            },
+            Call::Drop { name, key } => CallRef::Drop { name, key },
+            Call::Get { name, key } => CallRef::Get { name, key },
+            Call::StateOf { id } => CallRef::StateOf { id: *id },
+            Call::Watch {
+                time,
+                observer,
+                duration,
+                names,
+            } => CallRef::Watch {
+                time: *time,
+                observer,
+                duration: *duration,
+                names: names.as_slice(),
+            },
+            Call::Report { time, name, reason } => CallRef::Report {
+                time: *time,
+                name,
+                reason: *reason,
+            },
+        }
+    }
 }
 
 /// What a call answers.

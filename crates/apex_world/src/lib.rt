@@ -5,20 +5,20 @@
 mod calls;
 mod modules;
 mod script;
+mod segments;
 mod turns;
 mod world;
 
 pub use calls::{
-    ActiveSet, BootOrder, BootReply, Call, ChangeList, Changed, IdList, Image, NameList, Observer,
-    ObserverKind, ObserverList, Reply,
+    ActiveSet, BootOrder, BootReply, Call, CallRef, ChangeList, Changed, IdList, Image, NameList,
+    Observer, ObserverKind, ObserverList, Reply,
 };
 pub use modules::{
     ModuleList, Package, PackageList, SharedModule, check_module, manifest_in,
     sound_modules_are_sealed,
 };
-pub use script::{
-    BootList, CallList, Cut, Lane, LaneList, MountList, Script, ScriptBoot, Segment, SegmentList,
-};
+pub use script::{BootList, CallList, Cut, Lane, LaneList, MountList, Script, ScriptBoot, Segment};
+pub use segments::{Placed, SegmentList, SingleSubmit, Step};
 pub use turns::{Fate, TurnRow, Turns};
 pub use world::Submission;
 

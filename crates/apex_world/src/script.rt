@@ -1,5 +1,5 @@
 //! Scripts: what becomes of a device over several boots.
-use crate::{BootOrder, Call};
+use crate::{BootOrder, Call, SegmentList};
 use apex_base::{Listed, Name, Place, Scale, Version};
 
 /// Calls, seen as a list.
@@ -28,9 +28,6 @@ pub struct Segment {
     pub cut: Option<Cut>,
     pub lanes: LaneList,
 }
-
-/// Segments, seen as a list.
-pub type SegmentList = Listed<Segment>;
 
 /// Modules, each by its place, name and version; seen as a list.
 pub type MountList = Listed<(Place, Name, Version)>;

@@ -1,5 +1,5 @@
 //! What the world keeps beside sessions.
-use crate::modules::Package;
+use crate::modules::SharedModule;
 use apex_base::SessionId;
 
 /// The module that a part of a session submitted; parts are counted from 0.
@@ -7,5 +7,5 @@ use apex_base::SessionId;
 pub struct Submission {
     pub session: SessionId,
     pub part: u32,
-    pub content: Package,
+    pub content: SharedModule,
 }

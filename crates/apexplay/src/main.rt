@@ -1,18 +1,24 @@
 //! Plays a device script from standard input, and writes its text to standard output.
 #![tactic(auto)]
 
-mod streams;
+ghost use Rattle.std.specs.Prelude.{◌≡◌, ◌⊎◌, IfErr};
 
-use crate::streams::{Reading, Writing};
-use apex_base::OpenGate;
-use device_play::{Status, apex_play};
-use std::io::ErrorKind;
+mod play;
+mod run;
+mod streams;
+#[cfg(test)]
+mod tests;
+
+use crate::run::run;
+use device_play::Status;
 use std::process::ExitCode;
 use std::rt::Env;
 use std::{env, io};
 
 /// The words behind the program's name, or the status at which the program ends without them.
-fn words(rt: &(impl Env + AllocGlobal)) -> Result<Vec<String>, Status> {
+fn words(rt: &(impl Env + AllocGlobal)) -> Result<Vec<String>, Status>
+    ensures { IfErr result (λ status. (status ≡ Status.Usage) ⊎ (status ≡ Status.Memory)) }
+{
     let Ok(args) = env::args(rt) else {
         return Err(Status::Usage);
     };
@@ -25,37 +31,8 @@ fn words(rt: &(impl Env + AllocGlobal)) -> Result<Vec<String>, Status> {
     Ok(words)
 }
 
-/// Says on standard error why a run ended, in one line. There is nobody to tell where that fails.
-fn explain(rt: &impl Eprint, status: &Status) {
-    let _ = match status {
-        Status::Done => Ok(()),
-        Status::Usage => eprintln!(rt; "apexplay: usage"),
-        Status::Script { line, why } => eprintln!(rt; "apexplay: script line {line} {why}"),
-        Status::SourceFault => eprintln!(rt; "apexplay: source fault"),
-        Status::SinkFault => eprintln!(rt; "apexplay: sink fault"),
-        Status::Memory => eprintln!(rt; "apexplay: no memory"),
-    };
-}
-
-/// Plays with these words. Lines are gathered into larger writes, so a run is done only when the last is out.
-fn play(rt: &(impl Input + Print + AllocGlobal), words: &[String]) -> Status {
-    let alloc = rt.alloc();
-    let mut source = Reading::new(rt.reader());
-    let Ok(mut sink) = Writing::new(alloc, io::writer(rt)) else {
-        return Status::Memory;
-    };
-    let status = apex_play(alloc, words, &mut source, &mut sink, &OpenGate).status;
-    match sink.finish() {
-        Ok(()) => status,
-        Err(_) => Status::SinkFault,
-    }
-}
-
 fn main(rt: HostRuntime) -> ExitCode {
-    let status = match words(&rt) {
-        Err(status) => status,
-        Ok(words) => play(&rt, &words),
-    };
-    explain(&rt, &status);
-    ExitCode::from(status.number())
+    let words = words(&rt);
+    let (input, output) = (rt.reader(), io::writer(&rt));
+    ExitCode::from(run(rt.alloc(), words, input, output, &mut rt.stderr()).number)
 }

@@ -1,11 +1,13 @@
-//! Standard input and output as a source and a sink. They tell nothing of the bytes that they have, and count their
-//! faults.
-ghost use Rattle.std.specs.Prelude.{◌≡◌, ◌≤◌, [], None, IfOk, IsOk};
+//! A reader as a source, and a writer as a sink. What they tell of bytes is what the reader and the writer tell.
+ghost use Rattle.std.specs.Prelude.{◌≡◌, ◌≤◌, ◌<◌, ◌+◌, min, ◌-◌, [], IfOk, IsOk, OnOk, OnErr, length, take, drop, vec_len, vec_capacity};
+ghost use Rattle.std.specs.Io.KnownBytes.{Appends, Keeps};
 ghost use Rattle.apex_base.specs.Causes.{Rose, HasCause};
+ghost use Rattle.apex_base.specs.Outside.{Took, Puts};
+ghost use Rattle.apexplay.specs.Streams.{left_of, held_of};
 
 use apex_base::{Failed, Sink, Source};
 use std::alloc::{AllocError, Global};
-use std::io::{Read, Write};
+use std::io::{ErrorKind, Read, Write};
 
 /// A count of faults with one more, or at its end.
 fn one_more(faults: u64) -> u64
@@ -25,18 +27,34 @@ pub struct Reading<R: Read> {
 impl<R: Read + Drop> Reading<R> {
     /// Nothing has been read yet.
     pub fn new(reader: R) -> Self
-        ensures { result.faults ≡ 0 }
+        ensures reader { result.reader ≡ reader }
+        ensures faults { result.faults ≡ 0 }
     {
         Reading { reader, faults: 0 }
+    }
+
+    /// The reader, as far as it was read.
+    pub fn into_reader(self) -> R
+        ensures { result ≡ self.reader }
+    {
+        self.reader
     }
 }
 
 impl<R: Read> Source for Reading<R> {
-    ghost left = { λ source. None };
+    ghost left = { left_of R.remaining };
 
     ghost faults = { λ source. source.faults };
 
-    fn read(&mut self, into: &mut [u8]) -> Result<usize, Failed> {
+    fn read(&mut self, into: &mut [u8]) -> Result<usize, Failed>
+        ensures within { IfOk result (λ n. n ≤ length into.new) }
+        ensures taken { Took (left_of R.remaining self.old) (left_of R.remaining self.new) result into.new }
+        ensures cause { HasCause self.old.faults self.new.faults result }
+
+        // A read that answers bytes or the end counts no fault, and one that failed took nothing.
+        ensures counted { OnOk result (self.new.faults ≡ self.old.faults) }
+        ensures kept { OnErr result (Keeps (left_of R.remaining self.old) (left_of R.remaining self.new)) }
+    {
         match self.reader.read(into) {
             Ok(n) => Ok(n),
             Err(_) => {
@@ -47,11 +65,46 @@ impl<R: Read> Source for Reading<R> {
     }
 }
 
+/// Writes until all is written or a write fails, and tells how many bytes were written. Interrupted writes are tried
+/// again.
+fn write_front<W: Write>(bytes: &[u8], to: &mut W) -> usize
+    ensures bound { result ≤ length bytes.now }
+    ensures written { Appends (W.contents to.old) (W.contents to.new) (take result bytes.now) }
+{
+    let mut written = 0;
+    for _ in 0..u64::MAX {
+        if written == bytes.len() {
+            break;
+        }
+        match to.write(&bytes[written..]) {
+            Ok(0) => break,
+            Ok(n) => written += n,
+            Err(e) => {
+                if e.kind() != ErrorKind::Interrupted {
+                    break;
+                }
+            }
+        }
+    }
+    written
+}
+
+fn remove_front(bytes: &mut Vec<u8>, n: usize)
+    requires { n ≤ vec_len bytes.old }
+    ensures items { bytes.new.items ≡ drop n bytes.old.items }
+    ensures len { vec_len bytes.new ≡ vec_len bytes.old - n }
+    ensures capacity { vec_capacity bytes.new ≡ vec_capacity bytes.old }
+{
+    let len = bytes.len();
+    bytes.as_mut_slice().copy_within(n..len, 0);
+    bytes.truncate(len - n);
+}
+
 /// How many bytes are gathered before they are written.
 const ROOM: usize = 65536;
 
-/// A writer as a sink. Pieces are gathered, so that a line doesn't cost a system call. What was written is always a
-/// front of what was put: after a failed write nothing more is written.
+/// A writer as a sink. Pieces are gathered, so that a line doesn't cost a system call. What was written and what is
+/// gathered, one after the other, is what was put. After a failed write nothing more is written.
 #[derive(Drop)]
 pub struct Writing<W: Write> {
     writer: W,
@@ -60,47 +113,80 @@ pub struct Writing<W: Write> {
 }
 
 impl<W: Write + Drop> Writing<W> {
-    /// Nothing has been put yet. The room is taken here, so that a put needs no memory.
-    pub fn new(alloc: Global, writer: W) -> Result<Self, AllocError>
-        ensures { IfOk result (λ sink. sink.faults ≡ 0) }
+    /// Nothing has been put yet, and there is no room to gather.
+    pub fn new(alloc: Global, writer: W) -> Self
+        ensures writer { result.writer ≡ writer }
+        ensures empty { result.gathered.items ≡ [] }
+        ensures faults { result.faults ≡ 0 }
     {
-        Ok(Writing {
+        Writing {
             writer,
-            gathered: Vec::with_capacity(alloc, ROOM)?,
+            gathered: Vec::new(alloc),
             faults: 0,
-        })
+        }
+    }
+
+    /// Takes the room in which pieces are gathered, so that a put needs no memory.
+    pub fn take_room(&mut self) -> Result<(), AllocError>
+        ensures room { OnOk result (vec_len self.new.gathered + 65536 ≤ vec_capacity self.new.gathered) }
+        ensures gathered { self.new.gathered.items ≡ self.old.gathered.items }
+        ensures writer { self.new.writer ≡ self.old.writer }
+        ensures faults { self.new.faults ≡ self.old.faults }
+    {
+        self.gathered.reserve_exact(ROOM)
+    }
+
+    /// The writer. What is still gathered is let go.
+    pub fn into_writer(self) -> W
+        ensures { result ≡ self.writer }
+    {
+        self.writer
     }
 
     fn fail(&mut self) -> Failed
         ensures rose { Rose self.old.faults self.new.faults }
         ensures later { self.old.faults ≤ self.new.faults }
+        ensures writer { self.new.writer ≡ self.old.writer }
+        ensures gathered { self.new.gathered ≡ self.old.gathered }
     {
         self.faults = one_more(self.faults);
         Failed
     }
 
-    /// Writes what is still gathered.
+    /// Writes what is still gathered. A write that fails leaves the rest gathered.
     pub fn finish(&mut self) -> Result<(), Failed>
+        ensures kept { Keeps (held_of W.contents self.old) (held_of W.contents self.new) }
+        ensures emptied { OnOk result (self.new.gathered.items ≡ []) }
         ensures cause { HasCause self.old.faults self.new.faults result }
-        ensures emptied { IsOk result → self.new.gathered.items ≡ [] }
+        ensures stopped { 0 < self.old.faults → self.new.writer ≡ self.old.writer }
+        ensures idle { self.old.faults ≡ 0 → self.old.gathered.items ≡ [] → IsOk result }
     {
         if self.faults > 0 {
             return Err(self.fail());
         }
-        if self.writer.write_all(&self.gathered).is_err() {
+        let written = write_front(&self.gathered, &mut self.writer);
+        remove_front(&mut self.gathered, written);
+        if !self.gathered.is_empty() {
             return Err(self.fail());
         }
-        self.gathered.clear();
         Ok(())
     }
 }
 
 impl<W: Write + Drop> Sink for Writing<W> {
-    ghost held = { λ sink. None };
+    ghost held = { held_of W.contents };
 
     ghost faults = { λ sink. sink.faults };
 
-    fn put(&mut self, piece: &[u8]) -> Result<(), Failed> {
+    fn put(&mut self, piece: &[u8]) -> Result<(), Failed>
+        ensures put { Puts (held_of W.contents self.old) (held_of W.contents self.new) result piece.now }
+        ensures cause { HasCause self.old.faults self.new.faults result }
+        ensures stopped { 0 < self.old.faults → self.new.writer ≡ self.old.writer }
+
+        // A piece for which there is room is gathered alone.
+        ensures room { self.old.faults ≡ 0 → vec_len self.old.gathered + length piece.now ≤ min 65536 (vec_capacity self.old.gathered)
+            → IsOk result × (self.new.writer ≡ self.old.writer) }
+    {
         if self.faults > 0 {
             return Err(self.fail());
         }
@@ -110,84 +196,6 @@ impl<W: Write + Drop> Sink for Writing<W> {
         if self.gathered.extend_from_slice(piece).is_err() {
             return Err(self.fail());
         }
-        Ok(())
-    }
-}
-
-#[cfg(test)]
-mod tests {
-    use super::*;
-    use std::io;
-    use std::test::Fail;
-
-    /// A reader that gives its bytes one at a time.
-    #[derive(Drop)]
-    struct Slow {
-        left: u8,
-    }
-
-    impl Read for Slow {
-        fn read(&mut self, buf: &mut [u8]) -> io::Result<usize> {
-            if self.left == 0 || buf.is_empty() {
-                return Ok(0);
-            }
-            buf[0] = self.left;
-            self.left -= 1;
-            Ok(1)
-        }
-    }
-
-    #[test]
-    fn a_reader_is_read_to_its_end(rt: HostRuntime) {
-        let mut source = Reading::new(Slow { left: 2 });
-        let mut buffer = [0; 4];
-        assert_eq!(rt; source.read(&mut buffer), Ok(1));
-        assert_eq!(rt; buffer[0], 2);
-        assert_eq!(rt; source.read(&mut buffer), Ok(1));
-        assert_eq!(rt; source.read(&mut buffer), Ok(0));
-    }
-
-    /// A writer that has room for so many bytes, and counts those that came.
-    #[derive(Drop)]
-    struct Full {
-        room: usize,
-        came: usize,
-    }
-
-    impl Write for Full {
-        fn write(&mut self, buf: &[u8]) -> io::Result<usize> {
-            let n = buf.len().min(self.room);
-            self.room -= n;
-            self.came = self.came.saturating_add(n);
-            Ok(n)
-        }
-
-        fn flush(&mut self) -> io::Result<()> {
-            Ok(())
-        }
-    }
-
-    #[test]
-    fn lines_are_gathered_and_written_in_order(rt: HostRuntime) -> Result<(), Fail> {
-        let mut sink = Writing::new(rt.alloc(), Vec::new(rt.alloc()))?;
-        assert_eq!(rt; sink.put(b"one\n"), Ok(()));
-        assert_eq!(rt; sink.put(b"two\n"), Ok(()));
-        assert_eq!(rt; sink.writer.len(), 0);
-        assert_eq!(rt; sink.finish(), Ok(()));
-        assert_eq!(rt; sink.finish(), Ok(()));
-        assert_eq!(rt; sink.writer.as_slice(), b"one\ntwo\n".as_slice());
-        Ok(())
-    }
-
-    #[test]
-    fn nothing_is_written_after_a_failed_write(rt: HostRuntime) -> Result<(), Fail> {
-        let mut sink = Writing::new(rt.alloc(), Full { room: 6, came: 0 })?;
-        assert_eq!(rt; sink.put(b"one\ntwo\n"), Ok(()));
-        assert_eq!(rt; sink.finish(), Err(Failed));
-        sink.writer.room = 100;
-        assert_eq!(rt; sink.put(b"three\n"), Err(Failed));
-        assert_eq!(rt; sink.finish(), Err(Failed));
-        assert_eq!(rt; sink.writer.came, 6);
         Ok(())
     }
 }

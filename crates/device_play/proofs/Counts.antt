@@ -1,6 +1,5 @@
 -- How many calls each lane has had. Callers want `counts_more` and `counts_few`.
-use Rattle.std.proofs.Common.{◌≡◌, ℕ, ◌+◌, ◌<◌, ◌≤◌, ◌≢◌, true, false, cond, eqb, List, [], ◌∷◌, ◌++◌, length, get_or, set, take, drop, sym, ap, subst, ◌∙◌, refl, arith, inl, inr, ◌⊎◌, get_or-set_other, get_or-set_same, length-set, append_assoc, eq-eqb}
-use Rattle.std.specs.List.{All}
+use Rattle.std.proofs.Common.{◌≡◌, ℕ, ◌+◌, ◌^◌, ◌<◌, ◌≤◌, ◌≢◌, true, false, cond, eqb, List, [], ◌∷◌, ◌++◌, length, get_or, set, take, drop, sym, ap, subst, ◌∙◌, refl, arith, inl, inr, ◌⊎◌, get_or-set_other, get_or-set_same, length-set, append_assoc, eq-eqb}
 use Rattle.std.proofs.lemmas.Bool.Decides.{nat_tests}
 use Rattle.std.proofs.lemmas.Bool.{cases_eq}
 use Rattle.std.proofs.lemmas.List.{length-append, append-nil}
@@ -8,10 +7,12 @@ use Rattle.std.proofs.lemmas.Grind.{flat_map-append}
 use Rattle.apex_world.specs.declared.script.Lane.{Lane}
 use Rattle.apex_world.specs.declared.script.Segment.{Segment}
 use Rattle.apex_world.specs.declared.script.ScriptBoot.{ScriptBoot}
-use Rattle.apex_world.specs.Playable.{IsPlayableBoot, IsPlayableSegment, IsPlayableLane}
+use Rattle.apex_world.specs.declared.calls.Call.{Call}
+use Rattle.apex_world.specs.Playable.{IsBuilt, IsPlayableBoot, IsPlayableSegment, IsPlayableLane}
+use Rattle.apex_world.specs.Segments.{plain_segment}
 use Rattle.apex_world.specs.Turns.{lane_calls}
 use Rattle.device_play.specs.Stages.{HasCounts}
-use Rattle.device_play.proofs.Runs.{whole_of, lanes_of}
+use Rattle.device_play.proofs.Runs.{whole_of, lanes_of, next_of}
 
 lane_calls-append : (n : ℕ) (a b : List Lane) → lane_calls n (a ++ b) ≡ lane_calls n a ++ lane_calls n b
 lane_calls-append n a b = flat_map-append (λ (l : Lane). cond (eqb l.number n) l.calls []) a b
@@ -79,5 +80,26 @@ counts_few bound segments at j s l few lt here low same =
 -- a lane block of a boot that can be played can be played
 pub lane_playable : (bound : ℕ) (boot : ScriptBoot) (at j : ℕ) (s : Segment) (l : Lane) → IsPlayableBoot bound boot → at < length boot.segments → s ≡ get_or boot.segments at s → j < length s.lanes → l ≡ get_or s.lanes j l → IsPlayableLane l
 lane_playable bound boot at j s l playable lt here low same =
-    let lanes : All IsPlayableLane s.lanes = subst IsPlayableSegment (sym here) (playable.segments at s lt) in
-    subst IsPlayableLane (sym same) (lanes j l low)
+    let segment : IsPlayableSegment s = subst IsPlayableSegment (sym here) (playable.segments at s lt) in
+    subst IsPlayableLane (sym same) (segment.lanes j l low)
+
+-- so can a call outside lane blocks, which is a segment of its own
+pub call_playable : (boot : ScriptBoot) (at : ℕ) (call : Call) → IsPlayableBoot (2 ^ 32) boot → at < length boot.segments → plain_segment call ≡ get_or boot.segments at (plain_segment call) → IsBuilt call
+call_playable boot at call playable lt here =
+    let lane = lane_playable (2 ^ 32) boot at 0 (plain_segment call) (record { number = 0; calls = call ∷ [] }) playable lt here (omega arith) refl in
+    lane.calls 0 call (omega arith)
+
+-- and its lane has a step left
+pub call_counted : (boot : ScriptBoot) (at : ℕ) (call : Call) → IsPlayableBoot (2 ^ 32) boot → at < length boot.segments → plain_segment call ≡ get_or boot.segments at (plain_segment call) → length (lane_calls 0 (lanes_of (take at boot.segments))) + 1 < 2 ^ 32
+call_counted boot at call playable lt here =
+    let few = counts_few (2 ^ 32) boot.segments at 0 (plain_segment call) (record { number = 0; calls = call ∷ [] }) playable.steps lt here (omega arith) refl in
+    subst (λ ls. length (lane_calls 0 ls) + 1 < 2 ^ 32) (append-nil (lanes_of (take at boot.segments))) few
+
+-- the counts with that step
+pub call_counts : (counts : List ℕ) (blocks : List Lane) (call : Call) → HasCounts counts blocks → HasCounts (set counts 0 (get_or counts 0 0 + 1)) (blocks ++ (plain_segment call).lanes)
+call_counts counts blocks call has = counts_more counts blocks (record { number = 0; calls = call ∷ [] }) (get_or counts 0 0 + 1) has (omega arith) refl
+
+-- the blocks of a boot with those of the segment at a place
+pub blocks_next : (boot : ScriptBoot) (at : ℕ) (s : Segment) → at < length boot.segments → s ≡ get_or boot.segments at s → lanes_of (take (at + 1) boot.segments) ≡ lanes_of (take at boot.segments) ++ s.lanes
+blocks_next boot at s lt here =
+    ap lanes_of (next_of boot.segments at s lt here) ∙ flat_map-append (λ (t : Segment). t.lanes) (take at boot.segments) (s ∷ []) ∙ ap (λ ls. lanes_of (take at boot.segments) ++ ls) (append-nil s.lanes)

@@ -8,4 +8,5 @@ pub mod Runs
 pub mod Search
 pub mod Sources
 pub mod Statuses
+pub mod Steps
 pub mod Submits

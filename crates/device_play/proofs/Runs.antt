@@ -103,6 +103,10 @@ Stopped-at whole a here rest s t u same p q = Stopped-of _ _ s u same (Stopped-m
 pub Went-next : (whole a here : List Planned) (s t u : Stage) → whole ≡ a ++ here → Went a s t → Went here t u → Went whole s u
 Went-next whole a here s t u same p q = Went-of _ _ s u same (Went-more a here s t u p q)
 
+-- a run of a segment is one of the same segment
+pub ran_as : {T : Type 0} (r : Result T PutFailed) (b : ℕ) (e : List Lane) (x y : Segment) (s t : Stage) → x ≡ y → Ran r (block_plan b e x.lanes) s t → Ran r (block_plan b e y.lanes) s t
+ran_as r b e x y s t same p = subst (λ z. Ran r (block_plan b e z.lanes) s t) same p
+
 -- Plans of lists, by their places
 
 pub next_of : {X : Type 0} (xs : List X) (i : ℕ) (x : X) → i < length xs → x ≡ get_or xs i x → take (i + 1) xs ≡ take i xs ++ x ∷ []

@@ -27,6 +27,13 @@ long_refused (Some bytes) why long none = let both : ◌≡◌ {A = Result Scrip
 all_of : (xs ys zs : List ℕ) → xs ≡ ys ++ zs → zs ≡ [] → ys ≡ xs
 all_of xs ys zs e none = sym (e ∙ ap (λ v. ys ++ v) none ∙ append-nil ys)
 
+-- a source of which a script was read has one
+pub no_refusal : (left left' : Option (List ℕ)) (bytes : List ℕ) (why : ScriptWhy) (t : Script) → Moved left left' [] bytes → Ended left left' → HasNoScript left why → script_of bytes ≡ Ok t → ⊥
+no_refusal None left' bytes why t moved ended none read = none
+no_refusal (Some xs) None bytes why t moved ended none read = moved
+no_refusal (Some xs) (Some zs) bytes why t moved ended none read =
+    let both : ◌≡◌ {A = Result Script ScriptWhy} (Ok t) (Err why) = sym read ∙ ap script_of (all_of xs bytes zs moved ended) ∙ none in cc
+
 -- the script that was read is that of the source
 pub same_script : (left left' : Option (List ℕ)) (bytes : List ℕ) (s t : Script) → Moved left left' [] bytes → Ended left left' → HasScript left s → script_of bytes ≡ Ok t → t ≡ s
 same_script None left' bytes s t moved ended has read = absurd has

@@ -49,6 +49,11 @@ Admits (Ok p) said = said ≡ Ok (p ∷ [])
 Admits (Err (Refused refusal)) said = said ≡ Err refusal
 Admits (Err NoMemory) said = Unit {0}
 
+-- a stop for this refusal, or because memory ran out
+abbrev pub StopsFor : Stop → Refusal → Type 0
+StopsFor (Refused told) refusal = told ≡ refusal
+StopsFor NoMemory refusal = Unit {0}
+
 -- there are few sessions, and one module a unit at most
 pub record Fits (p : PlainWorld) : Type 0 where
   pub units : units_of p.sessions.items ≤ scale_units p.scale

@@ -3,8 +3,10 @@
 
 mod faults;
 mod kept;
+mod laws;
 mod limits;
 mod lines;
+mod mark;
 mod mounts;
 mod plain;
 mod play;
@@ -17,10 +19,20 @@ mod submit;
 mod turns;
 
 pub use apex_world::{Fate, TurnRow, Turns};
+pub use laws::{
+    bad_scripts_are_reported, done_runs_have_a_script, out_of_memory_is_not_silent,
+    sink_faults_have_a_script, source_faults_are_silent, usage_errors_are_silent,
+};
 pub use play::{Played, apex_play};
 pub use status::Status;
 
 #[cfg(test)]
+mod listing_tests;
+#[cfg(test)]
 mod module_tests;
 #[cfg(test)]
+mod order_tests;
+#[cfg(test)]
 mod tests;
+#[cfg(test)]
+mod world_tests;

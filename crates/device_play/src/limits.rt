@@ -58,7 +58,7 @@ fn target_weight(targets: &[Target], s: &Submission) -> u64
     ensures small { result ≤ 67125248 }
 {
     if is_target(targets, s.session, s.part) {
-        s.content.content.weight()
+        s.content.weight()
     } else {
         0
     }

@@ -4,6 +4,7 @@ ghost use Rattle.std.specs.Fmt.{decimal};
 ghost use Rattle.apex_world.specs.Text.{state_text, rollback_text, case_text, cause_text, cause_words, refusal_text, value_text, rollback_words, observer_text, id_words, reply_text, change_line, place_text, pick_line, loop_text, turn_mark, boot_line, reply_line, end_line};
 
 use crate::faults::push_fault;
+use crate::mark::LaneMark;
 use apex_base::{Case, Cause, Name, Pick, Place, Refusal, RollbackState, SessionId, State};
 use apex_world::{Changed, IdList, Reply, TurnRow};
 use itoa::Buffer;
@@ -56,7 +57,7 @@ fn place_text(place: Place) -> &'static [u8]
     }
 }
 
-fn push_number(line: &mut Vec<u8>, n: u64) -> Result<(), AllocError>
+pub fn push_number(line: &mut Vec<u8>, n: u64) -> Result<(), AllocError>
     ensures { OnOk result (line.new.items ≡ line.old.items ++ decimal n) }
 {
     let mut buffer = Buffer::new();
@@ -140,7 +141,7 @@ fn push_refusal(line: &mut Vec<u8>, refusal: &Refusal) -> Result<(), AllocError>
         Refusal::Module { part, fault } => {
             push_word_number(line, b"part ", u64::from(*part))?;
             line.extend_from_slice(b" ")?;
-            push_fault(line, fault)
+            push_fault(line, fault.get())
         }
         Refusal::TwiceNamed { name } => push_word_name(line, b"twice-named ", name),
         Refusal::NotPreinstalled { name } => push_word_name(line, b"not-preinstalled ", name),
@@ -270,13 +271,10 @@ fn push_reply(line: &mut Vec<u8>, alloc: Global, reply: &Reply) -> Result<(), Al
 
 /// The place of a turn, with a space behind it.
 #[tactic(auto, using(std::proofs::lemmas::Grind::common_steps), unfolding(apex_world::specs::Text::turn_mark))]
-fn push_mark(line: &mut Vec<u8>, row: &TurnRow) -> Result<(), AllocError>
+fn push_mark(line: &mut Vec<u8>, mark: &mut LaneMark, row: &TurnRow) -> Result<(), AllocError>
     ensures { OnOk result (line.new.items ≡ line.old.items ++ turn_mark row.now) }
 {
-    push_number(line, u64::from(row.boot))?;
-    line.extend_from_slice(b".")?;
-    push_number(line, u64::from(row.lane))?;
-    line.extend_from_slice(b".")?;
+    mark.push(line, row)?;
     push_number(line, u64::from(row.step))?;
     line.extend_from_slice(b" ")
 }
@@ -285,23 +283,29 @@ fn push_mark(line: &mut Vec<u8>, row: &TurnRow) -> Result<(), AllocError>
 #[tactic(auto, using(std::proofs::lemmas::Grind::common_steps), unfolding(apex_world::specs::Text::reply_line))]
 pub fn push_reply_line(
     line: &mut Vec<u8>,
+    mark: &mut LaneMark,
     alloc: Global,
     row: &TurnRow,
     reply: &Reply,
 ) -> Result<(), AllocError>
     ensures { OnOk result (line.new.items ≡ line.old.items ++ reply_line row.now reply.now) }
 {
-    push_mark(line, row)?;
+    push_mark(line, mark, row)?;
     push_reply(line, alloc, reply)?;
     line.extend_from_slice(b"\n")
 }
 
 /// The first line of an answered boot.
 #[tactic(auto, using(std::proofs::lemmas::Grind::common_steps), unfolding(apex_world::specs::Text::boot_line))]
-pub fn push_boot_line(line: &mut Vec<u8>, row: &TurnRow, number: u32) -> Result<(), AllocError>
+pub fn push_boot_line(
+    line: &mut Vec<u8>,
+    mark: &mut LaneMark,
+    row: &TurnRow,
+    number: u32,
+) -> Result<(), AllocError>
     ensures { OnOk result (line.new.items ≡ line.old.items ++ boot_line row.now number) }
 {
-    push_mark(line, row)?;
+    push_mark(line, mark, row)?;
     line.extend_from_slice(b"boot ")?;
     push_number(line, u64::from(number))?;
     line.extend_from_slice(b"\n")

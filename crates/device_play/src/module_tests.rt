@@ -1,7 +1,7 @@
 //! Scripts with modules, through the public call. The digests are those of `sha256sum`: of `abc`, and of no bytes.
 use crate::Status;
 use crate::tests::play;
-use apex_base::ModuleFault;
+use apex_base::{Boxed, ModuleFault};
 use device_script::LineFault;
 use std::alloc::Global;
 use std::test::Fail;
@@ -154,7 +154,7 @@ fn a_small_scale_has_32_units(rt: HostRuntime) -> Result<(), Fail> {
 #[test]
 fn a_bad_script_is_told_by_its_first_bad_line(rt: HostRuntime) -> Result<(), Fail> {
     let no_manifest = LineFault::BadModule {
-        fault: ModuleFault::NoManifest,
+        fault: Boxed::new(rt.alloc(), ModuleFault::NoManifest)?,
     };
     let cases = [
         ("scale small\nboot 0 1\n", 2, LineFault::BadPlace),

@@ -3,19 +3,19 @@ ghost use Rattle.std.specs.Prelude.{◌≡◌, ◌∷◌, [], false, IfOk, max};
 ghost use Rattle.apex_world.specs.Step.{rollback_after};
 ghost use Rattle.apex_world.specs.Soundness.{checked};
 ghost use Rattle.apex_world.specs.Submit.{new_session, package_of};
-ghost use Rattle.device_play.specs.Plain.{Judges};
+ghost use Rattle.device_play.specs.Plain.{Judges, StopsFor};
 
 use crate::limits::{units_of, weight_of};
 use crate::select::Selection;
 use crate::sessions::{boot_sessions, place_of, session_with};
 use crate::submit::{is_caller_id, is_taken, part_refusal};
 use apex_base::{
-    Kind, Listed, Millis, Mounter, Move, Part, Pick, Print, Record, Refusal, RollbackState, Scale,
-    SessionId, Shared, State, Target, moved,
+    Boxed, Kind, Listed, Millis, ModuleFault, Mounter, Move, Part, Pick, Print, Record, Refusal,
+    RollbackState, Scale, SessionId, Shared, State, Target, moved,
 };
 use apex_manifest::ManifestWhy;
 use apex_world::{
-    BootOrder, BootReply, Call, Image, Observer, Package, Reply, SharedModule, Submission,
+    BootOrder, BootReply, CallRef, Image, Observer, Package, Reply, SharedModule, Submission,
 };
 use std::alloc::{AllocError, Global};
 
@@ -71,6 +71,16 @@ fn plain_session(
     })
 }
 
+/// That the one part isn't sound, for this fault.
+fn unsound(alloc: Global, fault: ModuleFault) -> Stop
+    ensures { StopsFor result (Refusal.Module 1 fault) }
+{
+    match Boxed::new(alloc, fault) {
+        Ok(fault) => Stop::Refused(Refusal::Module { part: 1, fault }),
+        Err(_) => Stop::NoMemory,
+    }
+}
+
 /// The part with its name and version, where its module is sound.
 fn packaged(alloc: Global, part: &SharedModule) -> Result<Package, Stop>
     ensures { Judges result (package_of 1 part.now (checked part.now)) }
@@ -84,7 +94,7 @@ fn packaged(alloc: Global, part: &SharedModule) -> Result<Package, Stop>
             }),
             Err(_) => Err(Stop::NoMemory),
         },
-        Err(ManifestWhy::Fault(fault)) => Err(Stop::Refused(Refusal::Module { part: 1, fault })),
+        Err(ManifestWhy::Fault(fault)) => Err(unsound(alloc, fault)),
         Err(ManifestWhy::NoMemory) => Err(Stop::NoMemory),
     }
 }
@@ -108,6 +118,7 @@ impl PlainWorld {
     ghost use Rattle.std.specs.Prelude.{◌≡◌, ◌+◌, ◌-◌, ◌<◌, ◌^◌, ◌∷◌, [], false, take, IfOk, IsOk, IsSome, OnOk, length};
     ghost use Rattle.std.specs.List.{remove};
     ghost use Rattle.apex_world.specs.Boot.{boot_world, boot_reply};
+    ghost use Rattle.apex_world.specs.Calls.{call_at};
     ghost use Rattle.apex_world.specs.Limits.{units_of};
     ghost use Rattle.apex_world.specs.Playable.{IsBuilt};
     ghost use Rattle.apex_world.specs.Step.{submit, move_session, state_of, step};
@@ -172,33 +183,33 @@ impl PlainWorld {
     }
 
     /// A call. A refusal changes nothing; after want of memory the world is of no use.
-    pub fn act(&mut self, alloc: Global, call: &Call) -> Result<Reply, AllocError>
-        requires built { IsBuilt call.now }
+    pub fn act(&mut self, alloc: Global, call: &CallRef) -> Result<Reply, AllocError>
+        requires built { IsBuilt (call_at call.now) }
         requires fits { Fits self.old }
-        ensures reply { IfOk result (λ reply. reply ≡ (step (world_of self.old) call.now).reply) }
-        ensures world { OnOk result (world_of self.new ≡ (step (world_of self.old) call.now).world) }
+        ensures reply { IfOk result (λ reply. reply ≡ (step (world_of self.old) (call_at call.now)).reply) }
+        ensures world { OnOk result (world_of self.new ≡ (step (world_of self.old) (call_at call.now)).world) }
         ensures boots { self.new.boots ≡ self.old.boots }
         ensures fits { OnOk result (Fits self.new) }
     {
         match call {
-            Call::Submit { id, parts, .. } => match parts.as_slice() {
+            CallRef::Submit { id, parts, .. } => match parts {
                 [part] => self.submit(alloc, *id, part),
                 _ => unreachable!(),
             },
-            Call::Ready { id } => Ok(self.advance(self.clock, *id, Move::Ready)),
-            Call::Abort { id } => Ok(self.advance(self.clock, *id, Move::Abort)),
-            Call::Success { time, id } => {
+            CallRef::Ready { id } => Ok(self.advance(self.clock, *id, Move::Ready)),
+            CallRef::Abort { id } => Ok(self.advance(self.clock, *id, Move::Abort)),
+            CallRef::Success { time, id } => {
                 let clock = later_of(self.clock, *time);
                 Ok(self.advance(clock, *id, Move::Success))
             }
-            Call::StateOf { id } => Ok(self.state_of(*id)),
-            Call::Revert
-            | Call::Commit { .. }
-            | Call::Put { .. }
-            | Call::Drop { .. }
-            | Call::Get { .. }
-            | Call::Watch { .. }
-            | Call::Report { .. } => unreachable!(),
+            CallRef::StateOf { id } => Ok(self.state_of(*id)),
+            CallRef::Revert
+            | CallRef::Commit { .. }
+            | CallRef::Put { .. }
+            | CallRef::Drop { .. }
+            | CallRef::Get { .. }
+            | CallRef::Watch { .. }
+            | CallRef::Report { .. } => unreachable!(),
         }
     }
 
@@ -247,7 +258,7 @@ impl PlainWorld {
         self.modules.push(Submission {
             session: id,
             part: 0,
-            content: p,
+            content: p.content,
         })?;
         Ok(place)
     }

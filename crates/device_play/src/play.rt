@@ -1,5 +1,5 @@
-//! The top call. The commit point is the push of a turn in `turns`: a turn is in the history before its first
-//! line is put, so that what a failing sink holds is a front of the text of the turns that are told.
+//! The top call. The commit point is `enter_turn` in `turns`: a turn enters the history right after it happened and
+//! before its first line is put, so that what a failing sink holds is a front of the text of the turns that are told.
 ghost use Rattle.std.specs.Prelude.{◌≡◌, [], ◌↔◌, IsTrue};
 ghost use Rattle.std.specs.List.{All};
 ghost use Rattle.apex_base.specs.Causes.{Rose};
@@ -116,6 +116,6 @@ pub fn apex_play<S: Source, K: Sink, G: Gate>(
     };
     Played {
         status,
-        turns: Listed::of(run.turns),
+        turns: run.into_turns(),
     }
 }

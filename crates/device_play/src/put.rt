@@ -8,6 +8,7 @@ use crate::lines::{
     push_boot_line, push_change_line, push_end_line, push_loop_line, push_pick_line,
     push_reply_line,
 };
+use crate::mark::LaneMark;
 use apex_base::{Name, Pick, Sink};
 use apex_world::{BootReply, Changed, IdList, Reply, TurnRow};
 use std::alloc::{AllocError, AllocFailed, Global};
@@ -106,13 +107,14 @@ fn put_loop<K: Sink>(
 fn put_boot_line<K: Sink>(
     sink: &mut K,
     line: &mut Vec<u8>,
+    mark: &mut LaneMark,
     row: &TurnRow,
     number: u32,
 ) -> Result<(), PutFailed>
     ensures { HasPut result (K.held sink.old) (K.held sink.new) (K.faults sink.old) (K.faults sink.new) (boot_line row.now number) }
 {
     line.clear();
-    push_boot_line(line, row, number)?;
+    push_boot_line(line, mark, row, number)?;
     put_line(sink, line)
 }
 
@@ -120,12 +122,13 @@ fn put_boot_line<K: Sink>(
 pub fn put_boot<K: Sink>(
     sink: &mut K,
     line: &mut Vec<u8>,
+    mark: &mut LaneMark,
     row: &TurnRow,
     reply: &BootReply,
 ) -> Result<(), PutFailed>
     ensures { HasPut result (K.held sink.old) (K.held sink.new) (K.faults sink.old) (K.faults sink.new) (turn_lines row.now (Booted reply.now)) }
 {
-    put_boot_line(sink, line, row, reply.number)?;
+    put_boot_line(sink, line, mark, row, reply.number)?;
     put_changes(sink, line, reply.changes.as_slice())?;
     put_picks(sink, line, reply.active.as_slice())?;
     put_loop(sink, line, &reply.boot_loop)
@@ -136,6 +139,7 @@ pub fn put_boot<K: Sink>(
 pub fn put_reply<K: Sink>(
     sink: &mut K,
     line: &mut Vec<u8>,
+    mark: &mut LaneMark,
     alloc: Global,
     row: &TurnRow,
     reply: &Reply,
@@ -143,7 +147,7 @@ pub fn put_reply<K: Sink>(
     ensures { HasPut result (K.held sink.old) (K.held sink.new) (K.faults sink.old) (K.faults sink.new) (turn_lines row.now (Replied reply.now)) }
 {
     line.clear();
-    push_reply_line(line, alloc, row, reply)?;
+    push_reply_line(line, mark, alloc, row, reply)?;
     put_line(sink, line)
 }
 

@@ -9,7 +9,7 @@ use crate::kept::held;
 use apex_base::{
     Case, Cause, Mounter, Name, Part, Pick, Place, Record, SessionId, Target, Version,
 };
-use apex_world::{Package, Submission};
+use apex_world::{Package, SharedModule, Submission};
 use std::alloc::{AllocError, Global};
 
 /// The module of a name among those of an image.
@@ -32,7 +32,11 @@ fn submission_of<'a>(
 }
 
 /// The module that a part of a session submitted.
-fn submitted_by<'a>(modules: &'a [Submission], session: SessionId, part: u32) -> Option<&'a Package>
+fn submitted_by<'a>(
+    modules: &'a [Submission],
+    session: SessionId,
+    part: u32,
+) -> Option<&'a SharedModule>
     ensures { option_copied result ≡ submitted_by modules.now session part }
 {
     match submission_of(modules, session, part) {
@@ -91,7 +95,7 @@ impl<'a, M: Mounter> Selection<'a, M> {
     fn data_case(
         &self,
         alloc: Global,
-        given: &Package,
+        given: &SharedModule,
         version: Version,
         m: &Package,
     ) -> Result<Option<Case>, AllocError>
@@ -100,10 +104,10 @@ impl<'a, M: Mounter> Selection<'a, M> {
         if version < m.version {
             return Ok(Some(Case::BelowPreinstalled));
         }
-        if !given.content.has_key_of(&m.content) {
+        if !given.has_key_of(&m.content) {
             return Ok(Some(Case::KeyDiffers));
         }
-        if !given.content.is_sound(alloc)? {
+        if !given.is_sound(alloc)? {
             return Ok(Some(Case::Unsound));
         }
         if self.mounter.mounts(&m.name, version, Place::Data) {

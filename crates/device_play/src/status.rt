@@ -2,7 +2,7 @@
 use device_script::LineFault;
 
 /// How a run ended, and why it could not go on.
-#[derive(Clone, Copy, Debug, PartialEq, Eq)]
+#[derive(Drop, Debug, PartialEq, Eq)]
 pub enum Status {
     /// The script was played to its end, and all its text was put.
     Done,
@@ -23,8 +23,8 @@ impl Status {
     ghost use Rattle.device_play.specs.Headline.{status_number};
 
     /// The number that the program exits with.
-    pub fn number(self) -> u8
-        ensures { result ≡ status_number self }
+    pub fn number(&self) -> u8
+        ensures { result ≡ status_number self.now }
     {
         match self {
             Status::Done => 0,

@@ -1,5 +1,6 @@
 //! Worked examples through the public call, and what no clause says: printed text, and runs with ample memory.
 use crate::lines::push_reply_line;
+use crate::mark::LaneMark;
 use crate::{Fate, Played, Status, TurnRow, apex_play};
 use apex_base::{
     Listed, MemSink, MemSource, Name, OpenGate, Refusal, RollbackState, SessionId, State, Version,
@@ -192,7 +193,14 @@ fn refusals_are_printed(rt: HostRuntime) -> Result<(), Fail> {
     let row = answered(1, 0, 2);
     for (refusal, words) in cases {
         let mut line = Vec::new(rt.alloc());
-        push_reply_line(&mut line, rt.alloc(), &row, &Reply::Refused(refusal))?;
+        let mut mark = LaneMark::new(rt.alloc());
+        push_reply_line(
+            &mut line,
+            &mut mark,
+            rt.alloc(),
+            &row,
+            &Reply::Refused(refusal),
+        )?;
         let text = format!(in rt.alloc(); "1.0.2 refused {words}\n")?;
         assert_eq!(rt; line.as_slice(), text.as_bytes());
     }
@@ -233,7 +241,8 @@ fn replies_are_printed(rt: HostRuntime) -> Result<(), Fail> {
     let row = answered(2, 3, 10);
     for (reply, words) in replies(rt.alloc())? {
         let mut line = Vec::new(rt.alloc());
-        push_reply_line(&mut line, rt.alloc(), &row, &reply)?;
+        let mut mark = LaneMark::new(rt.alloc());
+        push_reply_line(&mut line, &mut mark, rt.alloc(), &row, &reply)?;
         let text = format!(in rt.alloc(); "2.3.10 {words}\n")?;
         assert_eq!(rt; line.as_slice(), text.as_bytes());
     }

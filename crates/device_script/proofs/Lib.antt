@@ -1,6 +1,8 @@
+pub mod DigitLemmas
+pub mod KeywordLemmas
 pub mod LineLemmas
 pub mod PlayableScripts
-pub mod ImageLemmas
+pub mod OrderLemmas
 pub mod Readings
 pub mod Steps
 pub mod Values

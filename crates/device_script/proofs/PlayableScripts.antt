@@ -23,16 +23,17 @@ use Rattle.device_script.specs.declared.draft.Draft.{Draft}
 use Rattle.device_script.specs.declared.fault.LineFault.TheVariants.{TooLong}
 use Rattle.device_script.specs.declared.fault.ScriptWhy.TheVariants.{Bad}
 use Rattle.device_script.specs.declared.keyword.Keyword.{Keyword}
-use Rattle.device_script.specs.declared.line.Line.{Line}
-use Rattle.device_script.specs.declared.line.Line.TheVariants as line
+use Rattle.device_script.specs.declared.keyword.Keyword.TheVariants as keyword
 use Rattle.device_script.specs.declared.block.Block.{Block}
 use Rattle.device_script.specs.declared.words.PartWord.{PartWord}
 use Rattle.device_script.specs.Blocks.{file_put, listing_put}
-use Rattle.device_script.specs.Draft.{start, plain_segment, closed, is_not_yet, may_stand, scale_taken, pre_taken, boot_taken, call_taken, submit_taken, file_taken, remove_taken, seal_taken, done_taken, block_becomes, taken, finished_at, finished}
+use Rattle.apex_world.specs.Segments.{plain_segment}
+use Rattle.device_script.specs.Draft.{start, closed, is_not_yet, may_stand, scale_taken, pre_taken, boot_taken, segment_taken, call_taken, submit_taken, file_taken, remove_taken, seal_taken, done_taken, block_becomes, taken, finished_at, finished}
 use Rattle.device_script.specs.Images.{module_named, package_of, image_with}
-use Rattle.device_script.specs.Lines.{line_of}
-use Rattle.device_script.specs.Script.{is_passed, is_plain, first_keyword, keyword_read, line_read, lines_read, script_of}
-use Rattle.device_script.specs.Words.{words_of}
+use Rattle.device_script.specs.Keywords.{keyword_of}
+use Rattle.device_script.specs.Lines.{scale_words, print_words, part_words, boot_words, submit_words, id_words, success_words, label_words, file_words, text_said, path_words, bare_words}
+use Rattle.device_script.specs.Script.{is_passed, is_plain, keyword_read, word_read, line_read, lines_read, script_of}
+use Rattle.device_script.specs.Words.{cut_word, words_of}
 use Rattle.device_script.proofs.LineLemmas.{few_lines}
 use Rattle.device_script.proofs.Steps.{tested_ok, from_ok, next_ok, told_ok}
 
@@ -78,8 +79,10 @@ steps_more segments call lane = simp (flat_map-append, length-append) (omega (ar
 
 -- the segment that a line makes of a call
 plain_playable : (call : Call) → IsBuilt call → IsPlayableSegment (plain_segment call)
-plain_playable call built =
-    All-cons IsPlayableLane _ [] (record { number = omega arith; calls = All-cons IsBuilt call [] built (All-nil IsBuilt) }) (All-nil IsPlayableLane)
+plain_playable call built = record {
+  numbers = λ i j d below within. absurd (omega (arith, below, within));
+  lanes = All-cons IsPlayableLane _ [] (record { number = omega arith; calls = All-cons IsBuilt call [] built (All-nil IsBuilt) }) (All-nil IsPlayableLane);
+}
 
 -- a boot with a call more
 call_joins : (n : ℕ) (b : ScriptBoot) (call : Call) → IsBuilt call → IsPlayableBoot n b → IsPlayableBoot (n + 1) (record b { segments = b.segments ++ plain_segment call ∷ [] })
@@ -113,18 +116,21 @@ boot_small n d time workers (Some scale) (Some image) p = record {
 }
 
 -- a call joins the current boot
-call_small : (n : ℕ) (d : Draft) (call : Call) (current : Option ScriptBoot) → IsBuilt call → IsSmall n d.boots current → IfOk (call_taken d call current) (IsSmallDraft (n + 1))
-call_small n d call None built p = tt
-call_small n d call (Some b) built p = record {
+segment_small : (n : ℕ) (d : Draft) (call : Call) (current : Option ScriptBoot) → IsBuilt call → IsSmall n d.boots current → IfOk (segment_taken d (plain_segment call) current) (IsSmallDraft (n + 1))
+segment_small n d call None built p = tt
+segment_small n d call (Some b) built p = record {
   count = omega (arith, p.count, length-append {A = ScriptBoot});
   done = All-weaker (IsPlayableBoot n) (IsPlayableBoot (n + 1)) (boot_weaker n (n + 1) (omega arith)) d.boots p.done;
   last = call_joins n b call built p.last;
 }
 
+call_small : (n : ℕ) (d : Draft) (call : Call) → IsBuilt call → IsSmallDraft n d → IfOk (call_taken d call) (IsSmallDraft (n + 1))
+call_small n d call built p = segment_small n d call d.current built p
+
 -- a submit is a call
 submit_small : (n : ℕ) (d : Draft) (id : SessionId) (part : PartWord) → IsSmallDraft n d → IfOk (submit_taken d id part) (IsSmallDraft (n + 1))
 unfolding submit_taken
-submit_small n d id part p = from_ok (module_named d.labels 4 part) _ _ (λ m. call_small n d (calls.Submit id [] false (m ∷ [])) d.current (refl, refl, refl) p)
+submit_small n d id part p = from_ok (module_named d.labels 4 part) _ _ (λ m. call_small n d (calls.Submit id [] false (m ∷ [])) (refl, refl, refl) p)
 
 -- a block adds neither boot nor call
 file_small : (n : ℕ) (d : Draft) (path content : List ℕ) (block : Option Block) → IsSmallDraft n d → IfOk (file_taken d path content block) (IsSmallDraft n)
@@ -144,32 +150,38 @@ done_small n d None p = tt
 done_small n d (Some block) p = p
 
 -- each line adds one boot or one call at most; the second bound is that of a line that adds none
-taken_small : (n number : ℕ) (d : Draft) (l : Line) → IsSmallDraft n d → IsSmallDraft (n + 1) d → IfOk (taken d number l) (IsSmallDraft (n + 1))
+taken_small : (n number : ℕ) (d : Draft) (k : Keyword) (rest : List ℕ) → IsSmallDraft n d → IsSmallDraft (n + 1) d → IfOk (taken d number k rest) (IsSmallDraft (n + 1))
 unfolding taken
-taken_small n number d (line.Scale scale) p q = scale_small (n + 1) d scale d.scale q
-taken_small n number d (line.Image print) p q = q
-taken_small n number d (line.Pre part) p q = pre_small (n + 1) d part d.scale d.image q
-taken_small n number d (line.Boot time workers) p q = boot_small n d time workers d.scale d.image p
-taken_small n number d (line.Submit id part) p q = submit_small n d id part p
-taken_small n number d (line.Ready id) p q = call_small n d (calls.Ready id) d.current tt p
-taken_small n number d (line.Abort id) p q = call_small n d (calls.Abort id) d.current tt p
-taken_small n number d (line.Success time id) p q = call_small n d (calls.Success time id) d.current tt p
-taken_small n number d (line.State id) p q = call_small n d (calls.StateOf id) d.current tt p
-taken_small n number d (line.Module label) p q = q
-taken_small n number d (line.File path content) p q = file_small (n + 1) d path content d.block q
-taken_small n number d (line.Remove path) p q = remove_small (n + 1) d path d.block q
-taken_small n number d line.Seal p q = seal_small (n + 1) d d.block q
-taken_small n number d line.Done p q = done_small (n + 1) d d.block q
+taken_small n number d keyword.Scale rest p q = from_ok (scale_words (words_of rest)) _ _ (λ scale. scale_small (n + 1) d scale d.scale q)
+taken_small n number d keyword.Image rest p q = from_ok (print_words (words_of rest)) _ _ (λ print. q)
+taken_small n number d keyword.Pre rest p q = from_ok (part_words (words_of rest)) _ _ (λ part. pre_small (n + 1) d part d.scale d.image q)
+taken_small n number d keyword.Boot rest p q = from_ok (boot_words (words_of rest)) _ _ (λ said. boot_small n d said.0 said.1 d.scale d.image p)
+taken_small n number d keyword.Submit rest p q = from_ok (submit_words (words_of rest)) _ _ (λ said. submit_small n d said.0 said.1 p)
+taken_small n number d keyword.Ready rest p q = from_ok (id_words (words_of rest)) _ _ (λ id. call_small n d (calls.Ready id) tt p)
+taken_small n number d keyword.Abort rest p q = from_ok (id_words (words_of rest)) _ _ (λ id. call_small n d (calls.Abort id) tt p)
+taken_small n number d keyword.Success rest p q = from_ok (success_words (words_of rest)) _ _ (λ said. call_small n d (calls.Success said.0 said.1) tt p)
+taken_small n number d keyword.State rest p q = from_ok (id_words (words_of rest)) _ _ (λ id. call_small n d (calls.StateOf id) tt p)
+taken_small n number d keyword.Module rest p q = from_ok (label_words (words_of rest)) _ _ (λ label. q)
+taken_small n number d keyword.File rest p q = from_ok (file_words (words_of rest)) _ _ (λ said. file_small (n + 1) d said.0 said.1 d.block q)
+taken_small n number d keyword.Text rest p q = from_ok (text_said rest) _ _ (λ said. file_small (n + 1) d said.0 said.1 d.block q)
+taken_small n number d keyword.Remove rest p q = from_ok (path_words (words_of rest)) _ _ (λ path. remove_small (n + 1) d path d.block q)
+taken_small n number d keyword.Seal rest p q = from_ok (bare_words (words_of rest)) _ _ (λ none. seal_small (n + 1) d d.block q)
+taken_small n number d keyword.Done rest p q = from_ok (bare_words (words_of rest)) _ _ (λ none. done_small (n + 1) d d.block q)
+taken_small n number d keyword.Later rest p q = tt
 
--- the same of a line with that keyword
-keyword_small : (n number : ℕ) (d : Draft) (k : Option Keyword) (l : List ℕ) → IsSmallDraft n d → IfOk (keyword_read d number k l) (IsSmallDraft (n + 1))
-keyword_small n number d None l p = tt
-keyword_small n number d (Some k) l p = tested_ok (is_not_yet d k l) (may_stand d k) _ _ _ _ tt (from_ok (line_of k l) (taken d number) _ (λ said. taken_small n number d said p (weaker n (n + 1) d.boots d.current (omega arith) p)))
+-- the same where its place is judged
+keyword_small : (n number : ℕ) (d : Draft) (k : Option Keyword) (rest : List ℕ) → IsSmallDraft n d → IfOk (keyword_read d number k rest) (IsSmallDraft (n + 1))
+keyword_small n number d None rest p = tt
+keyword_small n number d (Some k) rest p = tested_ok (is_not_yet d k rest) (may_stand d k) _ _ _ _ tt (taken_small n number d k rest p (weaker n (n + 1) d.boots d.current (omega arith) p))
+
+word_small : (n number : ℕ) (d : Draft) (cut : Option (List ℕ × List ℕ)) → IsSmallDraft n d → IfOk (word_read d number cut) (IsSmallDraft (n + 1))
+word_small n number d None p = tt
+word_small n number d (Some (word, rest)) p = keyword_small n number d (keyword_of word) rest p
 
 -- the same of its bytes
 line_small : (n number : ℕ) (d : Draft) (l : List ℕ) → IsSmallDraft n d → IfOk (line_read d number l) (IsSmallDraft (n + 1))
 unfolding line_read
-line_small n number d l p = tested_ok (is_passed l) (is_plain l) _ _ _ _ (weaker n (n + 1) d.boots d.current (omega arith) p) (keyword_small n number d (first_keyword (words_of l)) l p)
+line_small n number d l p = tested_ok (is_passed l) (is_plain l) _ _ _ _ (weaker n (n + 1) d.boots d.current (omega arith) p) (word_small n number d (cut_word l) p)
 
 -- lines add as many boots and calls as they are, at most
 lines_small : (m n number : ℕ) (d : Draft) (ls : List (List ℕ)) → n + length ls ≤ m → IsSmallDraft n d → IfOk (lines_read number d ls) (IsSmallDraft m)

@@ -11,19 +11,19 @@ use Rattle.apex_world.specs.declared.calls.Image.{Image}
 use Rattle.apex_world.specs.declared.script.Script.{Script}
 use Rattle.apex_world.specs.declared.script.ScriptBoot.{ScriptBoot}
 use Rattle.apex_world.specs.declared.script.Segment.{Segment}
+use Rattle.apex_world.specs.Segments.{plain_segment}
 use Rattle.device_script.specs.declared.block.Block.{Block}
 use Rattle.device_script.specs.declared.draft.Draft.{Draft}
 use Rattle.device_script.specs.declared.fault.LineFault.{LineFault}
-use Rattle.device_script.specs.declared.fault.LineFault.TheVariants.{BadPlace, Unended}
+use Rattle.device_script.specs.declared.fault.LineFault.TheVariants.{NotYet, BadPlace, Unended}
 use Rattle.device_script.specs.declared.fault.ScriptWhy.{ScriptWhy}
 use Rattle.device_script.specs.declared.fault.ScriptWhy.TheVariants.{Bad}
 use Rattle.device_script.specs.declared.keyword.Keyword.{Keyword}
 use Rattle.device_script.specs.declared.keyword.Keyword.TheVariants as keyword
-use Rattle.device_script.specs.declared.line.Line.{Line}
-use Rattle.device_script.specs.declared.line.Line.TheVariants as line
 use Rattle.device_script.specs.declared.words.PartWord.{PartWord}
 use Rattle.device_script.specs.Blocks.{begun, file_put, file_removed, listing_put}
 use Rattle.device_script.specs.Images.{module_named, package_of, image_with}
+use Rattle.device_script.specs.Lines.{scale_words, print_words, part_words, boot_words, submit_words, id_words, success_words, label_words, file_words, text_said, path_words, bare_words}
 use Rattle.device_script.specs.Words.{words_of}
 
 -- before the first line
@@ -32,17 +32,29 @@ start = record { scale = None; image = None; boots = []; current = None; labels 
 
 -- Which lines aren't read yet
 
--- the third word asks for a rollback
+-- the word after the id asks for a rollback
 abbrev pub asks_rollback : List (List ℕ) → Bool
-asks_rollback (first ∷ id ∷ kind ∷ rest) = bytes_eq kind (codes "rollback")
+asks_rollback (id ∷ kind ∷ others) = bytes_eq kind (codes "rollback")
 asks_rollback _ = false
 
--- a line of a later table, a second image, or a rollback
+-- a line of a later table, a second image, or a rollback; of each line it is known what stands after its first word
 abbrev pub is_not_yet : Draft → Keyword → List ℕ → Bool
-is_not_yet d keyword.Later bytes = true
-is_not_yet d keyword.Image bytes = is_some d.image
-is_not_yet d keyword.Submit bytes = asks_rollback (words_of bytes)
-is_not_yet d _ bytes = false
+is_not_yet d keyword.Later rest = true
+is_not_yet d keyword.Image rest = is_some d.image
+is_not_yet d keyword.Submit rest = asks_rollback (words_of rest)
+is_not_yet d keyword.Scale rest = false
+is_not_yet d keyword.Pre rest = false
+is_not_yet d keyword.Boot rest = false
+is_not_yet d keyword.Ready rest = false
+is_not_yet d keyword.Abort rest = false
+is_not_yet d keyword.Success rest = false
+is_not_yet d keyword.State rest = false
+is_not_yet d keyword.Module rest = false
+is_not_yet d keyword.File rest = false
+is_not_yet d keyword.Text rest = false
+is_not_yet d keyword.Remove rest = false
+is_not_yet d keyword.Seal rest = false
+is_not_yet d keyword.Done rest = false
 
 -- Where a line may stand
 
@@ -53,9 +65,19 @@ is_of_blocks keyword.Text = true
 is_of_blocks keyword.Remove = true
 is_of_blocks keyword.Seal = true
 is_of_blocks keyword.Done = true
-is_of_blocks _ = false
+is_of_blocks keyword.Scale = false
+is_of_blocks keyword.Image = false
+is_of_blocks keyword.Pre = false
+is_of_blocks keyword.Boot = false
+is_of_blocks keyword.Submit = false
+is_of_blocks keyword.Ready = false
+is_of_blocks keyword.Abort = false
+is_of_blocks keyword.Success = false
+is_of_blocks keyword.State = false
+is_of_blocks keyword.Module = false
+is_of_blocks keyword.Later = false
 
--- scale first and once; images and blocks behind it; modules and boots behind an image; calls behind a boot
+-- scale first and once; images and blocks after it; modules and boots after an image; calls after a boot
 abbrev pub may_stand_outside : Draft → Keyword → Bool
 may_stand_outside d keyword.Scale = is_none d.scale
 may_stand_outside d keyword.Image = is_some d.scale
@@ -68,7 +90,11 @@ may_stand_outside d keyword.Ready = is_some d.current
 may_stand_outside d keyword.Abort = is_some d.current
 may_stand_outside d keyword.Success = is_some d.current
 may_stand_outside d keyword.State = is_some d.current
-may_stand_outside d _ = false
+may_stand_outside d keyword.File = false
+may_stand_outside d keyword.Text = false
+may_stand_outside d keyword.Remove = false
+may_stand_outside d keyword.Seal = false
+may_stand_outside d keyword.Done = false
 
 -- in a block only its own lines may stand
 abbrev pub may_stand : Draft → Keyword → Bool
@@ -114,20 +140,20 @@ boot_taken d time workers (Some scale) (Some image) = Ok (record d {
   });
 })
 
--- a segment of one call outside lane blocks
-abbrev pub plain_segment : Call → Segment
-plain_segment call = record { cut = None; lanes = record { number = 0; calls = call ∷ [] } ∷ [] }
+-- a segment after the last boot
+abbrev pub segment_taken : Draft → Segment → Option ScriptBoot → Result Draft LineFault
+segment_taken d segment None = Err BadPlace
+segment_taken d segment (Some boot) = Ok (record d { current = Some (record boot { segments = boot.segments ++ segment ∷ [] }) })
 
--- a call behind the last boot
-abbrev pub call_taken : Draft → Call → Option ScriptBoot → Result Draft LineFault
-call_taken d call None = Err BadPlace
-call_taken d call (Some boot) = Ok (record d { current = Some (record boot { segments = boot.segments ++ plain_segment call ∷ [] }) })
+-- a call outside lane blocks
+abbrev pub call_taken : Draft → Call → Result Draft LineFault
+call_taken d call = segment_taken d (plain_segment call) d.current
 
 -- a plain submit of one part
 unfoldable pub submit_taken : Draft → SessionId → PartWord → Result Draft LineFault
 submit_taken d id part = do
   m ← module_named d.labels 4 part
-  call_taken d (calls.Submit id [] false (m ∷ [])) d.current
+  call_taken d (calls.Submit id [] false (m ∷ []))
 
 -- Module blocks
 
@@ -151,22 +177,38 @@ abbrev pub done_taken : Draft → Option Block → Result Draft LineFault
 done_taken d None = Err BadPlace
 done_taken d (Some block) = Ok (record d { labels = fin.insert d.labels block.label block.content; block = None })
 
+-- what stands after the first word of a `pre`, a `submit`, a `file` and a `text` line is read, and then taken
+
+abbrev pub pre_read : Draft → List ℕ → Result Draft LineFault
+pre_read d rest = part_words (words_of rest) >>= λ part. pre_taken d part d.scale d.image
+
+abbrev pub submit_read : Draft → List ℕ → Result Draft LineFault
+submit_read d rest = submit_words (words_of rest) >>= λ said. submit_taken d said.0 said.1
+
+abbrev pub file_read : Draft → List ℕ → Result Draft LineFault
+file_read d rest = file_words (words_of rest) >>= λ said. file_taken d said.0 said.1 d.block
+
+abbrev pub text_read : Draft → List ℕ → Result Draft LineFault
+text_read d rest = text_said rest >>= λ said. file_taken d said.0 said.1 d.block
+
 -- a draft with a line more, which is line n
-unfoldable pub taken : Draft → ℕ → Line → Result Draft LineFault
-taken d n (line.Scale scale) = scale_taken d scale d.scale
-taken d n (line.Image print) = image_taken d print
-taken d n (line.Pre part) = pre_taken d part d.scale d.image
-taken d n (line.Boot time workers) = boot_taken d time workers d.scale d.image
-taken d n (line.Submit id part) = submit_taken d id part
-taken d n (line.Ready id) = call_taken d (calls.Ready id) d.current
-taken d n (line.Abort id) = call_taken d (calls.Abort id) d.current
-taken d n (line.Success time id) = call_taken d (calls.Success time id) d.current
-taken d n (line.State id) = call_taken d (calls.StateOf id) d.current
-taken d n (line.Module label) = block_becomes d (begun n label)
-taken d n (line.File path content) = file_taken d path content d.block
-taken d n (line.Remove path) = remove_taken d path d.block
-taken d n line.Seal = seal_taken d d.block
-taken d n line.Done = done_taken d d.block
+unfoldable pub taken : Draft → ℕ → Keyword → List ℕ → Result Draft LineFault
+taken d n keyword.Scale rest = scale_words (words_of rest) >>= λ scale. scale_taken d scale d.scale
+taken d n keyword.Image rest = print_words (words_of rest) >>= image_taken d
+taken d n keyword.Pre rest = pre_read d rest
+taken d n keyword.Boot rest = boot_words (words_of rest) >>= λ said. boot_taken d said.0 said.1 d.scale d.image
+taken d n keyword.Submit rest = submit_read d rest
+taken d n keyword.Ready rest = id_words (words_of rest) >>= λ id. call_taken d (calls.Ready id)
+taken d n keyword.Abort rest = id_words (words_of rest) >>= λ id. call_taken d (calls.Abort id)
+taken d n keyword.Success rest = success_words (words_of rest) >>= λ said. call_taken d (calls.Success said.0 said.1)
+taken d n keyword.State rest = id_words (words_of rest) >>= λ id. call_taken d (calls.StateOf id)
+taken d n keyword.Module rest = label_words (words_of rest) >>= λ label. block_becomes d (begun n label)
+taken d n keyword.File rest = file_read d rest
+taken d n keyword.Text rest = text_read d rest
+taken d n keyword.Remove rest = path_words (words_of rest) >>= λ path. remove_taken d path d.block
+taken d n keyword.Seal rest = bare_words (words_of rest) >>= λ _. seal_taken d d.block
+taken d n keyword.Done rest = bare_words (words_of rest) >>= λ _. done_taken d d.block
+taken d n keyword.Later rest = Err NotYet
 
 -- the script that the lines make, where there are no more and no block is open
 abbrev pub finished_at : Draft → Option Scale → Option Block → Result Script ScriptWhy

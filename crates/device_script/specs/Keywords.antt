@@ -1,58 +1,36 @@
 -- The first words of lines: docs/formats/script.md, "Lines".
-use Rattle.std.specs.Prelude.{ℕ, ◌||◌, Bool, List, codes, Option, Some, None, if◌then◌else◌}
-use Rattle.std.specs.Option.{option_or}
+use Rattle.std.specs.Prelude.{ℕ, ◌==◌, List, [], ◌∷◌, filter, length, codes, Option, Some, None, if◌then◌else◌}
 use Rattle.std.specs.Str.{bytes_eq}
 use Rattle.device_script.specs.declared.keyword.Keyword.{Keyword}
 use Rattle.device_script.specs.declared.keyword.Keyword.TheVariants as keyword
 
--- scale, images and boots
-unfoldable pub setup_word : List ℕ → Option Keyword
-setup_word word =
-    if bytes_eq word (codes "scale") then Some keyword.Scale
-    else (if bytes_eq word (codes "image") then Some keyword.Image
-    else (if bytes_eq word (codes "pre") then Some keyword.Pre
-    else (if bytes_eq word (codes "boot") then Some keyword.Boot
-    else None)))
+-- each first word of the format, and what its line is; Later where such lines aren't read yet
+unfoldable pub keywords : List (List ℕ × Keyword)
+keywords =
+    -- calls
+    (codes "submit", keyword.Submit) ∷ (codes "ready", keyword.Ready) ∷ (codes "abort", keyword.Abort)
+    ∷ (codes "success", keyword.Success) ∷ (codes "state", keyword.State)
+    ∷ (codes "group", keyword.Later) ∷ (codes "revert", keyword.Later) ∷ (codes "commit", keyword.Later) ∷ (codes "put", keyword.Later)
+    ∷ (codes "drop", keyword.Later) ∷ (codes "get", keyword.Later) ∷ (codes "watch", keyword.Later) ∷ (codes "report", keyword.Later)
+    -- scale, images and boots
+    ∷ (codes "scale", keyword.Scale) ∷ (codes "image", keyword.Image) ∷ (codes "pre", keyword.Pre) ∷ (codes "boot", keyword.Boot)
+    ∷ (codes "observer", keyword.Later) ∷ (codes "nomount", keyword.Later) ∷ (codes "mount", keyword.Later)
+    -- lanes
+    ∷ (codes "cut", keyword.Later) ∷ (codes "lane", keyword.Later) ∷ (codes "end", keyword.Later) ∷ (codes "then", keyword.Later)
+    -- module blocks
+    ∷ (codes "module", keyword.Module) ∷ (codes "file", keyword.File) ∷ (codes "text", keyword.Text)
+    ∷ (codes "remove", keyword.Remove) ∷ (codes "seal", keyword.Seal) ∷ (codes "done", keyword.Done)
+    ∷ []
 
--- calls
-unfoldable pub call_word : List ℕ → Option Keyword
-call_word word =
-    if bytes_eq word (codes "submit") then Some keyword.Submit
-    else (if bytes_eq word (codes "ready") then Some keyword.Ready
-    else (if bytes_eq word (codes "abort") then Some keyword.Abort
-    else (if bytes_eq word (codes "success") then Some keyword.Success
-    else (if bytes_eq word (codes "state") then Some keyword.State
-    else None))))
-
--- module blocks
-unfoldable pub block_word : List ℕ → Option Keyword
-block_word word =
-    if bytes_eq word (codes "module") then Some keyword.Module
-    else (if bytes_eq word (codes "file") then Some keyword.File
-    else (if bytes_eq word (codes "text") then Some keyword.Text
-    else (if bytes_eq word (codes "remove") then Some keyword.Remove
-    else (if bytes_eq word (codes "seal") then Some keyword.Seal
-    else (if bytes_eq word (codes "done") then Some keyword.Done
-    else None)))))
-
-abbrev pub is_later_setup : List ℕ → Bool
-is_later_setup word = bytes_eq word (codes "observer") || bytes_eq word (codes "nomount") || bytes_eq word (codes "mount")
-
-abbrev pub is_later_lane : List ℕ → Bool
-is_later_lane word = bytes_eq word (codes "cut") || bytes_eq word (codes "lane") || bytes_eq word (codes "end") || bytes_eq word (codes "then")
-
-abbrev pub is_later_call : List ℕ → Bool
-is_later_call word =
-    bytes_eq word (codes "group") || bytes_eq word (codes "revert") || bytes_eq word (codes "commit") || bytes_eq word (codes "put")
-    || bytes_eq word (codes "drop") || bytes_eq word (codes "get") || bytes_eq word (codes "watch") || bytes_eq word (codes "report")
-
--- a word of the format whose lines aren't read yet
-abbrev pub is_later : List ℕ → Bool
-is_later word = is_later_setup word || is_later_lane word || is_later_call word
-
-abbrev pub later_word : List ℕ → Option Keyword
-later_word word = if is_later word then Some keyword.Later else None
+-- what stands behind a word in a table
+abbrev pub look_up : List (List ℕ × Keyword) → List ℕ → Option Keyword
+look_up [] word = None
+look_up (row ∷ rows) word = if bytes_eq word row.0 then Some row.1 else look_up rows word
 
 -- what a line with this first word is
 abbrev pub keyword_of : List ℕ → Option Keyword
-keyword_of word = option_or (setup_word word) (option_or (call_word word) (option_or (block_word word) (later_word word)))
+keyword_of word = look_up keywords word
+
+-- the rows of words of one length
+abbrev pub of_length : ℕ → List (List ℕ × Keyword) → List (List ℕ × Keyword)
+of_length n rows = filter (λ row. length row.0 == n) rows

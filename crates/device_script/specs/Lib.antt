@@ -3,8 +3,6 @@ pub mod Draft
 pub mod Images
 pub mod Keywords
 pub mod Lines
-pub mod ReadImages
 pub mod Script
 pub mod Taking
-pub mod Views
 pub mod Words

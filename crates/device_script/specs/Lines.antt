@@ -1,133 +1,111 @@
--- What a line says: docs/formats/script.md, "Lines". Words are counted from 1, with the line's first.
+-- What a line says after its first word: docs/formats/script.md, "Lines". A word's number counts the first one.
 use Rattle.std.specs.Prelude.{ℕ, List, [], ◌∷◌, Option, Some, None, Result, Ok, Err, ok_or, if◌then◌else◌}
+use Rattle.apex_base.specs.declared.numbers.Scale.{Scale}
+use Rattle.apex_base.specs.declared.numbers.SessionId.{SessionId}
 use Rattle.apex_base.specs.Results.{◌>>=◌}
 use Rattle.apex_base.specs.Text.{name_of, path_of, print_of}
 use Rattle.device_script.specs.declared.fault.LineFault.{LineFault}
-use Rattle.device_script.specs.declared.fault.LineFault.TheVariants.{NotYet, Words, BadWord}
-use Rattle.device_script.specs.declared.keyword.Keyword.{Keyword}
-use Rattle.device_script.specs.declared.keyword.Keyword.TheVariants as keyword
-use Rattle.device_script.specs.declared.line.Line.{Line}
-use Rattle.device_script.specs.declared.line.Line.TheVariants as line
-use Rattle.device_script.specs.Words.{words_of, cut_word, scale_of, id_of, time_of, workers_of, content_of, part_of, is_plain_kind}
+use Rattle.device_script.specs.declared.fault.LineFault.TheVariants.{Words, BadWord}
+use Rattle.device_script.specs.declared.words.PartWord.{PartWord}
+use Rattle.device_script.specs.Words.{cut_word, scale_of, id_of, time_of, workers_of, content_of, part_of, is_plain_kind}
+
+-- the words of a line that has so many
+
+abbrev pub no_word : List (List ℕ) → Option (Unit {0})
+no_word [] = Some tt
+no_word _ = None
+
+abbrev pub one_word : List (List ℕ) → Option (List ℕ)
+one_word (a ∷ []) = Some a
+one_word _ = None
+
+abbrev pub two_words : List (List ℕ) → Option (List ℕ × List ℕ)
+two_words (a ∷ b ∷ []) = Some (a, b)
+two_words _ = None
+
+abbrev pub three_words : List (List ℕ) → Option (List ℕ × List ℕ × List ℕ)
+three_words (a ∷ b ∷ c ∷ []) = Some (a, b, c)
+three_words _ = None
 
 -- what was read of the word of a number, or that it couldn't be read
 abbrev pub read_or : {T : Type 0} → ℕ → Option T → Result T LineFault
 read_or word None = Err (BadWord word)
 read_or word (Some x) = Ok x
 
-unfoldable pub scale_line : List (List ℕ) → Result Line LineFault
-scale_line (first ∷ scale ∷ []) = do
-  scale ← read_or 2 (scale_of scale)
-  Ok (line.Scale scale)
-scale_line _ = Err Words
+unfoldable pub scale_words : List (List ℕ) → Result Scale LineFault
+scale_words words = do
+  scale ← ok_or (one_word words) Words
+  read_or 2 (scale_of scale)
 
-unfoldable pub image_line : List (List ℕ) → Result Line LineFault
-image_line (first ∷ print ∷ []) = do
-  print ← read_or 2 (print_of print)
-  Ok (line.Image print)
-image_line _ = Err Words
+unfoldable pub print_words : List (List ℕ) → Result (List ℕ) LineFault
+print_words words = do
+  print ← ok_or (one_word words) Words
+  read_or 2 (print_of print)
 
-unfoldable pub pre_line : List (List ℕ) → Result Line LineFault
-pre_line (first ∷ part ∷ []) = do
-  part ← read_or 2 (part_of part)
-  Ok (line.Pre part)
-pre_line _ = Err Words
+unfoldable pub part_words : List (List ℕ) → Result PartWord LineFault
+part_words words = do
+  part ← ok_or (one_word words) Words
+  read_or 2 (part_of part)
 
-unfoldable pub boot_line : List (List ℕ) → Result Line LineFault
-boot_line (first ∷ time ∷ workers ∷ []) = do
-  time ← read_or 2 (time_of time)
-  workers ← read_or 3 (workers_of workers)
-  Ok (line.Boot time workers)
-boot_line _ = Err Words
+-- a moment, and a number of workers
+unfoldable pub boot_words : List (List ℕ) → Result (ℕ × ℕ) LineFault
+boot_words words = do
+  both ← ok_or (two_words words) Words
+  time ← read_or 2 (time_of both.0)
+  workers ← read_or 3 (workers_of both.1)
+  Ok (time, workers)
 
 -- Calls
 
-unfoldable pub submit_line : List (List ℕ) → Result Line LineFault
-submit_line (first ∷ id ∷ kind ∷ part ∷ []) = do
-  id ← read_or 2 (id_of id)
-  kind ← read_or 3 (if is_plain_kind kind then Some kind else None)
-  part ← read_or 4 (part_of part)
-  Ok (line.Submit id part)
-submit_line _ = Err Words
+-- an id, `plain`, and a part
+unfoldable pub submit_words : List (List ℕ) → Result (SessionId × PartWord) LineFault
+submit_words words = do
+  all ← ok_or (three_words words) Words
+  id ← read_or 2 (id_of all.0)
+  kind ← read_or 3 (if is_plain_kind all.1 then Some all.1 else None)
+  part ← read_or 4 (part_of all.2)
+  Ok (id, part)
 
-unfoldable pub ready_line : List (List ℕ) → Result Line LineFault
-ready_line (first ∷ id ∷ []) = do
-  id ← read_or 2 (id_of id)
-  Ok (line.Ready id)
-ready_line _ = Err Words
+unfoldable pub id_words : List (List ℕ) → Result SessionId LineFault
+id_words words = do
+  id ← ok_or (one_word words) Words
+  read_or 2 (id_of id)
 
-unfoldable pub abort_line : List (List ℕ) → Result Line LineFault
-abort_line (first ∷ id ∷ []) = do
-  id ← read_or 2 (id_of id)
-  Ok (line.Abort id)
-abort_line _ = Err Words
-
-unfoldable pub success_line : List (List ℕ) → Result Line LineFault
-success_line (first ∷ time ∷ id ∷ []) = do
-  time ← read_or 2 (time_of time)
-  id ← read_or 3 (id_of id)
-  Ok (line.Success time id)
-success_line _ = Err Words
-
-unfoldable pub state_line : List (List ℕ) → Result Line LineFault
-state_line (first ∷ id ∷ []) = do
-  id ← read_or 2 (id_of id)
-  Ok (line.State id)
-state_line _ = Err Words
+-- a moment and an id
+unfoldable pub success_words : List (List ℕ) → Result (ℕ × SessionId) LineFault
+success_words words = do
+  both ← ok_or (two_words words) Words
+  time ← read_or 2 (time_of both.0)
+  id ← read_or 3 (id_of both.1)
+  Ok (time, id)
 
 -- Module blocks
 
-unfoldable pub module_line : List (List ℕ) → Result Line LineFault
-module_line (first ∷ label ∷ []) = do
-  label ← read_or 2 (name_of label)
-  Ok (line.Module label)
-module_line _ = Err Words
+unfoldable pub label_words : List (List ℕ) → Result (List ℕ) LineFault
+label_words words = do
+  label ← ok_or (one_word words) Words
+  read_or 2 (name_of label)
 
-unfoldable pub file_line : List (List ℕ) → Result Line LineFault
-file_line (first ∷ path ∷ content ∷ []) = do
-  path ← read_or 2 (path_of path)
-  content ← read_or 3 (content_of content)
-  Ok (line.File path content)
-file_line _ = Err Words
+-- a path and a content
+unfoldable pub file_words : List (List ℕ) → Result (List ℕ × List ℕ) LineFault
+file_words words = do
+  both ← ok_or (two_words words) Words
+  path ← read_or 2 (path_of both.0)
+  content ← read_or 3 (content_of both.1)
+  Ok (path, content)
 
--- the content is what stands behind the path and one space: it is no list of words
-unfoldable pub text_line : List ℕ → Result Line LineFault
-text_line bytes = do
-  first ← ok_or (cut_word bytes) Words
-  second ← ok_or (cut_word first.1) Words
-  path ← read_or 2 (path_of second.0)
-  Ok (line.File path second.1)
+-- a path; the content is what stands after it and one space, and no list of words
+unfoldable pub text_said : List ℕ → Result (List ℕ × List ℕ) LineFault
+text_said rest = do
+  both ← ok_or (cut_word rest) Words
+  path ← read_or 2 (path_of both.0)
+  Ok (path, both.1)
 
-unfoldable pub remove_line : List (List ℕ) → Result Line LineFault
-remove_line (first ∷ path ∷ []) = do
-  path ← read_or 2 (path_of path)
-  Ok (line.Remove path)
-remove_line _ = Err Words
+unfoldable pub path_words : List (List ℕ) → Result (List ℕ) LineFault
+path_words words = do
+  path ← ok_or (one_word words) Words
+  read_or 2 (path_of path)
 
--- a line of its first word alone
-unfoldable pub bare_line : Line → List (List ℕ) → Result Line LineFault
-bare_line line (first ∷ []) = Ok line
-bare_line line _ = Err Words
-
--- what words say whose first is none of those below
-unfoldable pub words_line : Keyword → List (List ℕ) → Result Line LineFault
-words_line keyword.Scale words = scale_line words
-words_line keyword.Image words = image_line words
-words_line keyword.Pre words = pre_line words
-words_line keyword.Boot words = boot_line words
-words_line keyword.Submit words = submit_line words
-words_line keyword.Ready words = ready_line words
-words_line keyword.Abort words = abort_line words
-words_line keyword.Success words = success_line words
-words_line keyword.State words = state_line words
-words_line keyword.Module words = module_line words
-words_line keyword.Remove words = remove_line words
-words_line keyword.Seal words = bare_line line.Seal words
-words_line keyword.Done words = bare_line line.Done words
-words_line _ words = Err NotYet
-
--- what a line says
-abbrev pub line_of : Keyword → List ℕ → Result Line LineFault
-line_of keyword.Text bytes = text_line bytes
-line_of keyword.File bytes = file_line (words_of bytes)
-line_of k bytes = words_line k (words_of bytes)
+-- nothing more
+unfoldable pub bare_words : List (List ℕ) → Result (Unit {0}) LineFault
+bare_words words = ok_or (no_word words) Words

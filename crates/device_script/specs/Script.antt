@@ -14,8 +14,7 @@ use Rattle.device_script.specs.declared.fault.ScriptWhy.TheVariants.{Bad, NoMemo
 use Rattle.device_script.specs.declared.keyword.Keyword.{Keyword}
 use Rattle.device_script.specs.Draft.{start, is_not_yet, may_stand, taken, finished}
 use Rattle.device_script.specs.Keywords.{keyword_of}
-use Rattle.device_script.specs.Lines.{line_of}
-use Rattle.device_script.specs.Words.{words_of}
+use Rattle.device_script.specs.Words.{cut_word}
 
 -- a line is passed over where it has no word, or its first word begins with a number sign
 abbrev pub is_passed : List ℕ → Bool
@@ -26,24 +25,26 @@ is_passed (b ∷ bs) = if b == 32 then is_passed bs else b == 35
 abbrev pub is_plain : List ℕ → Bool
 is_plain line = list_all (λ b. nat_le 32 b && nat_le b 126) line
 
-abbrev pub first_keyword : List (List ℕ) → Option Keyword
-first_keyword [] = None
-first_keyword (word ∷ words) = keyword_of word
-
--- a keyword, its place and its words are judged in this order
+-- a keyword, its place and what stands after it are judged in this order
 abbrev pub keyword_read : Draft → ℕ → Option Keyword → List ℕ → Result Draft LineFault
-keyword_read d n None line = Err UnknownWord
-keyword_read d n (Some k) line =
-    if is_not_yet d k line then Err NotYet
-    else (if may_stand d k then line_of k line >>= taken d n
+keyword_read d n None rest = Err UnknownWord
+keyword_read d n (Some k) rest =
+    if is_not_yet d k rest then Err NotYet
+    else (if may_stand d k then taken d n k rest
     else Err BadPlace)
+
+-- the first word of a line is its keyword
+abbrev pub word_read : Draft → ℕ → Option (List ℕ × List ℕ) → Result Draft LineFault
+word_read d n None = Err UnknownWord
+word_read d n (Some (word, rest)) = keyword_read d n (keyword_of word) rest
+
+-- a draft with a line more that isn't passed over
+abbrev pub words_read : Draft → ℕ → List ℕ → Result Draft LineFault
+words_read d n line = if is_plain line then word_read d n (cut_word line) else Err BadByte
 
 -- a draft with a line more, which is line n
 unfoldable pub line_read : Draft → ℕ → List ℕ → Result Draft LineFault
-line_read d n line =
-    if is_passed line then Ok d
-    else (if is_plain line then keyword_read d n (first_keyword (words_of line)) line
-    else Err BadByte)
+line_read d n line = if is_passed line then Ok d else words_read d n line
 
 -- a fault, told of its line
 abbrev pub at_line : {T : Type 0} → ℕ → Result T LineFault → Result T ScriptWhy

@@ -15,3 +15,8 @@ abbrev pub Takes : {T D : Type 0} → Result T LineError → D → Result D Line
 Takes (Ok x) new said = said ≡ Ok new
 Takes (Err (error.Fault fault)) new said = said ≡ Err fault
 Takes (Err error.NoMemory) new said = Unit {0}
+
+-- the error is this fault, or says that memory ran out
+abbrev pub IsOrNoMemory : LineError → LineFault → Type 0
+IsOrNoMemory (error.Fault told) fault = told ≡ fault
+IsOrNoMemory error.NoMemory fault = Unit {0}

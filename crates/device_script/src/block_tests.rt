@@ -1,25 +1,26 @@
 //! Module blocks, worked out by hand from `docs/formats/script.md`.
 use crate::fault::{LineError, LineFault};
 use crate::keyword::Keyword;
-use crate::line::{Line, line_of};
+use crate::line::{file_words, text_said};
 use crate::read_script;
 use crate::tests::{FOUR_LINES, bad, boot_text, why};
-use apex_base::ModuleFault;
+use crate::words::cut_word;
+use apex_base::{Boxed, ModuleFault};
 use std::alloc::Global;
 use std::test::Fail;
 
-fn said_text(alloc: Global, line: &Line) -> Result<String, Fail> {
-    let Line::File { path, content } = line else {
-        return Ok(format!(in alloc; "no file")?);
-    };
-    let path = str::from_utf8(path.as_bytes())?;
-    Ok(format!(in alloc; "{path} {:?}", content.as_slice())?)
-}
-
 /// The path and the content of the file that a line says, or its fault.
 fn file_text(alloc: Global, keyword: Keyword, line: &str) -> Result<String, Fail> {
-    match line_of(alloc, keyword, line.as_bytes()) {
-        Ok(line) => said_text(alloc, &line),
+    let (_, rest) = cut_word(line.as_bytes()).ok_or("a word")?;
+    let said = match keyword {
+        Keyword::Text => text_said(alloc, rest),
+        _ => file_words(alloc, rest),
+    };
+    match said {
+        Ok((path, content)) => {
+            let path = str::from_utf8(path.as_bytes())?;
+            Ok(format!(in alloc; "{path} {:?}", content.as_slice())?)
+        }
         Err(LineError::Fault(fault)) => Ok(format!(in alloc; "{fault}")?),
         Err(LineError::NoMemory) => Ok(format!(in alloc; "no memory")?),
     }
@@ -183,7 +184,7 @@ fn files_are_replaced_and_removed(rt: HostRuntime) -> Result<(), Fail> {
 fn a_module_is_judged_before_the_image(rt: HostRuntime) -> Result<(), Fail> {
     let eight = "pre b@1\npre c@1\npre d@1\npre e@1\npre f@1\npre g@1\npre h@1\n";
     let not_json = LineFault::BadModule {
-        fault: ModuleFault::NotJson,
+        fault: Boxed::new(rt.alloc(), ModuleFault::NotJson)?,
     };
     let table = [
         // a name that the image has, and one that it lacks, at a full image

@@ -10,10 +10,13 @@ use crate::block::Block;
 use crate::fault::{LineError, LineFault, ScriptWhy};
 use crate::keyword::Keyword;
 use crate::labels::Labels;
-use crate::line::Line;
+use crate::line::{
+    bare_words, boot_words, file_words, id_words, label_words, part_words, path_words, print_words,
+    scale_words, submit_words, success_words, text_said,
+};
 use crate::words::cut_word;
 use apex_base::{Listed, Scale, Shared};
-use apex_world::{BootList, Call, Image, Script, ScriptBoot};
+use apex_world::{BootList, Image, Script, ScriptBoot, Step};
 use std::alloc::Global;
 
 /// What the lines so far have made: the scale, the last image, the boots that are done, the boot that calls
@@ -28,17 +31,14 @@ pub struct Draft {
     block: Option<Block>,
 }
 
-/// Whether the third word of a line asks for a rollback.
-fn asks_rollback(line: &[u8]) -> bool
-    ensures { result ≡ asks_rollback (words_of line.now) }
+/// Whether the word after the id asks for a rollback.
+fn asks_rollback(rest: &[u8]) -> bool
+    ensures { result ≡ asks_rollback (words_of rest.now) }
 {
-    let Some((_, behind)) = cut_word(line) else {
+    let Some((_, rest)) = cut_word(rest) else {
         return false;
     };
-    let Some((_, behind)) = cut_word(behind) else {
-        return false;
-    };
-    match cut_word(behind) {
+    match cut_word(rest) {
         None => false,
         Some((kind, _)) => kind == b"rollback".as_slice(),
     }
@@ -50,13 +50,23 @@ fn is_of_blocks(keyword: Keyword) -> bool
 {
     match keyword {
         Keyword::File | Keyword::Text | Keyword::Remove | Keyword::Seal | Keyword::Done => true,
-        _ => false,
+        Keyword::Scale
+        | Keyword::Image
+        | Keyword::Pre
+        | Keyword::Boot
+        | Keyword::Submit
+        | Keyword::Ready
+        | Keyword::Abort
+        | Keyword::Success
+        | Keyword::State
+        | Keyword::Module
+        | Keyword::Later => false,
     }
 }
 
 impl Draft {
     ghost use Rattle.std.specs.Prelude.{◌≡◌};
-    ghost use Rattle.device_script.specs.Draft.{start, is_not_yet, may_stand_outside, may_stand, taken, finished};
+    ghost use Rattle.device_script.specs.Draft.{start, is_not_yet, may_stand_outside, may_stand, pre_read, submit_read, file_read, text_read, taken, finished};
     ghost use Rattle.device_script.specs.Script.{IsRead};
     ghost use Rattle.device_script.specs.Taking.{Takes};
 
@@ -75,14 +85,26 @@ impl Draft {
     }
 
     /// Whether a line isn't read yet, though its keyword may be.
-    pub fn is_not_yet(&self, keyword: Keyword, line: &[u8]) -> bool
-        ensures { result ≡ is_not_yet self.now keyword line.now }
+    pub fn is_not_yet(&self, keyword: Keyword, rest: &[u8]) -> bool
+        ensures { result ≡ is_not_yet self.now keyword rest.now }
     {
         match keyword {
             Keyword::Later => true,
             Keyword::Image => self.image.is_some(),
-            Keyword::Submit => asks_rollback(line),
-            _ => false,
+            Keyword::Submit => asks_rollback(rest),
+            Keyword::Scale
+            | Keyword::Pre
+            | Keyword::Boot
+            | Keyword::Ready
+            | Keyword::Abort
+            | Keyword::Success
+            | Keyword::State
+            | Keyword::Module
+            | Keyword::File
+            | Keyword::Text
+            | Keyword::Remove
+            | Keyword::Seal
+            | Keyword::Done => false,
         }
     }
 
@@ -100,7 +122,7 @@ impl Draft {
         }
     }
 
-    /// Whether a line may stand behind the lines so far.
+    /// Whether a line may stand after the lines so far.
     pub fn may_stand(&self, keyword: Keyword) -> bool
         ensures { result ≡ may_stand self.now keyword }
     {
@@ -111,29 +133,101 @@ impl Draft {
         }
     }
 
-    /// A line of that number enters the draft.
-    #[tactic(auto, unfolding(crate::specs::Draft::taken))]
-    pub fn take(&mut self, alloc: Global, number: u32, line: Line) -> Result<(), LineError>
-        ensures { Takes result self.new (taken self.old number line) }
+    #[inline(never)]
+    fn read_pre(&mut self, alloc: Global, rest: &[u8]) -> Result<(), LineError>
+        ensures { Takes result self.new (pre_read self.old rest.now) }
     {
-        match line {
-            Line::Scale(scale) => self.take_scale(scale),
-            Line::Image(print) => self.take_image(alloc, print),
-            Line::Pre(part) => self.take_pre(alloc, &part),
-            Line::Boot { time, workers } => self.take_boot(alloc, time, workers),
-            Line::Submit { id, part } => self.take_submit(alloc, id, &part),
-            Line::Ready { id } => self.take_call(alloc, Call::Ready { id }),
-            Line::Abort { id } => self.take_call(alloc, Call::Abort { id }),
-            Line::Success { time, id } => self.take_call(alloc, Call::Success { time, id }),
-            Line::State { id } => self.take_call(alloc, Call::StateOf { id }),
-            Line::Module(label) => {
+        let part = part_words(rest)?;
+        self.take_pre(alloc, &part)
+    }
+
+    #[inline(never)]
+    fn read_submit(&mut self, alloc: Global, rest: &[u8]) -> Result<(), LineError>
+        ensures { Takes result self.new (submit_read self.old rest.now) }
+    {
+        let (id, part) = submit_words(rest)?;
+        self.take_submit(alloc, id, &part)
+    }
+
+    #[inline(never)]
+    fn read_file(&mut self, alloc: Global, rest: &[u8]) -> Result<(), LineError>
+        ensures { Takes result self.new (file_read self.old rest.now) }
+    {
+        let (path, content) = file_words(alloc, rest)?;
+        self.take_file(path, content)
+    }
+
+    #[inline(never)]
+    fn read_text(&mut self, alloc: Global, rest: &[u8]) -> Result<(), LineError>
+        ensures { Takes result self.new (text_read self.old rest.now) }
+    {
+        let (path, content) = text_said(alloc, rest)?;
+        self.take_file(path, content)
+    }
+
+    /// Reads what stands after the first word of a line of that number, and takes it. Lines that hold much are read in
+    /// functions of their own, so that a short line doesn't pay for their room.
+    #[tactic(auto, unfolding(crate::specs::Draft::taken))]
+    pub fn take(
+        &mut self,
+        alloc: Global,
+        number: u32,
+        keyword: Keyword,
+        rest: &[u8],
+    ) -> Result<(), LineError>
+        ensures { Takes result self.new (taken self.old number keyword rest.now) }
+    {
+        match keyword {
+            Keyword::Scale => {
+                let scale = scale_words(rest)?;
+                self.take_scale(scale)
+            }
+            Keyword::Image => {
+                let print = print_words(rest)?;
+                self.take_image(alloc, print)
+            }
+            Keyword::Pre => self.read_pre(alloc, rest),
+            Keyword::Boot => {
+                let (time, workers) = boot_words(rest)?;
+                self.take_boot(alloc, time, workers)
+            }
+            Keyword::Submit => self.read_submit(alloc, rest),
+            Keyword::Ready => {
+                let id = id_words(rest)?;
+                self.take_step(Step::Ready { id })
+            }
+            Keyword::Abort => {
+                let id = id_words(rest)?;
+                self.take_step(Step::Abort { id })
+            }
+            Keyword::Success => {
+                let (time, id) = success_words(rest)?;
+                self.take_step(Step::Success { id, time })
+            }
+            Keyword::State => {
+                let id = id_words(rest)?;
+                self.take_step(Step::StateOf { id })
+            }
+            Keyword::Module => {
+                let label = label_words(rest)?;
                 self.block = Some(Block::begin(alloc, number, label));
                 Ok(())
             }
-            Line::File { path, content } => self.take_file(path, content),
-            Line::Remove(path) => self.take_remove(&path),
-            Line::Seal => self.take_seal(alloc),
-            Line::Done => self.take_done(alloc),
+            Keyword::File => self.read_file(alloc, rest),
+            Keyword::Text => self.read_text(alloc, rest),
+            Keyword::Remove => {
+                let path = path_words(rest)?;
+                self.take_remove(&path)
+            }
+            Keyword::Seal => {
+                bare_words(rest)?;
+                self.take_seal(alloc)
+            }
+            Keyword::Done => {
+                bare_words(rest)?;
+                self.take_done(alloc)
+            }
+            Keyword::Later => Err(LineError::Fault(LineFault::NotYet)),
         }
     }
 

@@ -1,10 +1,10 @@
 //! Why bytes are no script.
-use apex_base::ModuleFault;
+use apex_base::{Boxed, ModuleFault};
 use std::alloc::{AllocError, AllocFailed};
 use thiserror::Error;
 
 /// What is wrong with a line, in the order in which the checks are made.
-#[derive(Clone, Copy, Debug, PartialEq, Eq, Error)]
+#[derive(Drop, Debug, PartialEq, Eq, Error)]
 pub enum LineFault {
     /// The script has more than 16777216 bytes. It is told of line 0.
     #[error("too-long")]
@@ -32,7 +32,7 @@ pub enum LineFault {
     NoLabel { word: u32 },
     /// The manifest of the module doesn't read, for this reason.
     #[error("bad-module {fault}")]
-    BadModule { fault: ModuleFault },
+    BadModule { fault: Boxed<ModuleFault> },
     /// The image has a module of that name already.
     #[error("twice")]
     Twice,
@@ -45,7 +45,7 @@ pub enum LineFault {
 }
 
 /// Why `read_script` gives no script: the first bad line, counted from 1, and what is wrong with it.
-#[derive(Clone, Copy, Debug, PartialEq, Eq, Error)]
+#[derive(Drop, Debug, PartialEq, Eq, Error)]
 pub enum ScriptWhy {
     #[error("script line {line} {why}")]
     Bad { line: u32, why: LineFault },
@@ -54,7 +54,7 @@ pub enum ScriptWhy {
 }
 
 /// Why a line didn't enter a draft.
-#[derive(Clone, Copy, Debug, PartialEq, Eq)]
+#[derive(Drop, Debug, PartialEq, Eq)]
 pub enum LineError {
     Fault(LineFault),
     NoMemory,
@@ -68,6 +68,17 @@ impl From<LineFault> for LineError {
 
     fn from(fault: LineFault) -> LineError {
         LineError::Fault(fault)
+    }
+}
+
+impl<T: Drop> From<AllocFailed<T>> for LineError {
+    ghost use Rattle.std.specs.Prelude.{◌≡◌};
+    ghost use Rattle.device_script.specs.declared.fault.LineError.TheVariants.{NoMemory};
+
+    ghost from_gives = { λ _ e. e ≡ NoMemory };
+
+    fn from(_: AllocFailed<T>) -> LineError {
+        LineError::NoMemory
     }
 }
 

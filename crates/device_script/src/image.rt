@@ -1,10 +1,10 @@
 //! Images that are being read: an image with a module more.
 ghost use Rattle.std.specs.Prelude.{◌≡◌, IfOk};
 ghost use Rattle.device_script.specs.Images.{has_module, package_of, image_with};
-ghost use Rattle.device_script.specs.Taking.{Gives};
+ghost use Rattle.device_script.specs.Taking.{Gives, IsOrNoMemory};
 
 use crate::fault::{LineError, LineFault};
-use apex_base::{Listed, Name, Scale, Shared};
+use apex_base::{Boxed, Listed, ModuleFault, Name, Scale, Shared};
 use apex_manifest::ManifestWhy;
 use apex_world::{Image, Package, PackageList, SharedModule};
 use std::alloc::{AllocError, Global};
@@ -42,6 +42,16 @@ fn own_image(alloc: Global, image: Shared<Image>) -> Result<Image, AllocError>
     }
 }
 
+/// That a module's manifest doesn't read, for this reason.
+fn bad_module(alloc: Global, fault: ModuleFault) -> LineError
+    ensures { IsOrNoMemory result (LineFault.BadModule fault) }
+{
+    match Boxed::new(alloc, fault) {
+        Ok(fault) => LineError::Fault(LineFault::BadModule { fault }),
+        Err(_) => LineError::NoMemory,
+    }
+}
+
 /// A module with what its manifest says.
 pub fn package_of(alloc: Global, content: SharedModule) -> Result<Package, LineError>
     ensures { Gives result (package_of content) }
@@ -52,7 +62,7 @@ pub fn package_of(alloc: Global, content: SharedModule) -> Result<Package, LineE
             version: manifest.version,
             content,
         }),
-        Err(ManifestWhy::Fault(fault)) => Err(LineError::Fault(LineFault::BadModule { fault })),
+        Err(ManifestWhy::Fault(fault)) => Err(bad_module(alloc, fault)),
         Err(ManifestWhy::NoMemory) => Err(LineError::NoMemory),
     }
 }

@@ -1,6 +1,6 @@
 //! The first word of a line, which says what the line is.
 ghost use Rattle.std.specs.Prelude.{◌≡◌};
-ghost use Rattle.device_script.specs.Keywords.{setup_word, call_word, block_word, is_later_setup, is_later_lane, is_later_call, is_later, keyword_of};
+ghost use Rattle.device_script.specs.Keywords.{keywords, keyword_of, look_up, of_length};
 
 /// What a line is.
 #[derive(Clone, Copy)]
@@ -24,156 +24,167 @@ pub enum Keyword {
     Later,
 }
 
-/// Scale, images and boots.
-#[tactic(auto, unfolding(crate::specs::Keywords::setup_word))]
-fn setup_word(word: &[u8]) -> Option<Keyword>
-    ensures { result ≡ setup_word word.now }
+#[tactic(auto, unfolding(crate::specs::Keywords::keywords))]
+fn of_three(word: &[u8]) -> Option<Keyword>
+    ensures { result ≡ look_up (of_length 3 keywords) word.now }
 {
-    if word == b"scale".as_slice() {
-        return Some(Keyword::Scale);
+    let Some(word) = word.as_array::<3>() else {
+        return None;
+    };
+    if word == b"put" {
+        return Some(Keyword::Later);
     }
-    if word == b"image".as_slice() {
-        return Some(Keyword::Image);
+    if word == b"get" {
+        return Some(Keyword::Later);
     }
-    if word == b"pre".as_slice() {
+    if word == b"pre" {
         return Some(Keyword::Pre);
     }
-    if word == b"boot".as_slice() {
+    if word == b"cut" {
+        return Some(Keyword::Later);
+    }
+    if word == b"end" {
+        return Some(Keyword::Later);
+    }
+    None
+}
+
+#[tactic(auto, unfolding(crate::specs::Keywords::keywords))]
+fn of_four(word: &[u8]) -> Option<Keyword>
+    ensures { result ≡ look_up (of_length 4 keywords) word.now }
+{
+    let Some(word) = word.as_array::<4>() else {
+        return None;
+    };
+    if word == b"drop" {
+        return Some(Keyword::Later);
+    }
+    if word == b"boot" {
         return Some(Keyword::Boot);
     }
-    None
-}
-
-/// Calls.
-#[tactic(auto, unfolding(crate::specs::Keywords::call_word))]
-fn call_word(word: &[u8]) -> Option<Keyword>
-    ensures { result ≡ call_word word.now }
-{
-    if word == b"submit".as_slice() {
-        return Some(Keyword::Submit);
+    if word == b"lane" {
+        return Some(Keyword::Later);
     }
-    if word == b"ready".as_slice() {
-        return Some(Keyword::Ready);
+    if word == b"then" {
+        return Some(Keyword::Later);
     }
-    if word == b"abort".as_slice() {
-        return Some(Keyword::Abort);
-    }
-    if word == b"success".as_slice() {
-        return Some(Keyword::Success);
-    }
-    if word == b"state".as_slice() {
-        return Some(Keyword::State);
-    }
-    None
-}
-
-/// Module blocks.
-#[tactic(auto, unfolding(crate::specs::Keywords::block_word))]
-fn block_word(word: &[u8]) -> Option<Keyword>
-    ensures { result ≡ block_word word.now }
-{
-    if word == b"module".as_slice() {
-        return Some(Keyword::Module);
-    }
-    if word == b"file".as_slice() {
+    if word == b"file" {
         return Some(Keyword::File);
     }
-    if word == b"text".as_slice() {
+    if word == b"text" {
         return Some(Keyword::Text);
     }
-    if word == b"remove".as_slice() {
-        return Some(Keyword::Remove);
-    }
-    if word == b"seal".as_slice() {
+    if word == b"seal" {
         return Some(Keyword::Seal);
     }
-    if word == b"done".as_slice() {
+    if word == b"done" {
         return Some(Keyword::Done);
     }
     None
 }
 
-fn is_later_setup(word: &[u8]) -> bool
-    ensures { result ≡ is_later_setup word.now }
+#[tactic(auto, unfolding(crate::specs::Keywords::keywords))]
+fn of_five(word: &[u8]) -> Option<Keyword>
+    ensures { result ≡ look_up (of_length 5 keywords) word.now }
 {
-    if word == b"observer".as_slice() {
-        return true;
+    let Some(word) = word.as_array::<5>() else {
+        return None;
+    };
+    if word == b"ready" {
+        return Some(Keyword::Ready);
     }
-    if word == b"nomount".as_slice() {
-        return true;
+    if word == b"abort" {
+        return Some(Keyword::Abort);
     }
-    word == b"mount".as_slice()
-}
-
-fn is_later_lane(word: &[u8]) -> bool
-    ensures { result ≡ is_later_lane word.now }
-{
-    if word == b"cut".as_slice() {
-        return true;
+    if word == b"state" {
+        return Some(Keyword::State);
     }
-    if word == b"lane".as_slice() {
-        return true;
+    if word == b"group" {
+        return Some(Keyword::Later);
     }
-    if word == b"end".as_slice() {
-        return true;
+    if word == b"watch" {
+        return Some(Keyword::Later);
     }
-    word == b"then".as_slice()
-}
-
-fn is_later_call(word: &[u8]) -> bool
-    ensures { result ≡ is_later_call word.now }
-{
-    if word == b"group".as_slice() {
-        return true;
+    if word == b"scale" {
+        return Some(Keyword::Scale);
     }
-    if word == b"revert".as_slice() {
-        return true;
+    if word == b"image" {
+        return Some(Keyword::Image);
     }
-    if word == b"commit".as_slice() {
-        return true;
-    }
-    if word == b"put".as_slice() {
-        return true;
-    }
-    if word == b"drop".as_slice() {
-        return true;
-    }
-    if word == b"get".as_slice() {
-        return true;
-    }
-    if word == b"watch".as_slice() {
-        return true;
-    }
-    word == b"report".as_slice()
-}
-
-fn is_later(word: &[u8]) -> bool
-    ensures { result ≡ is_later word.now }
-{
-    if is_later_setup(word) {
-        return true;
-    }
-    if is_later_lane(word) {
-        return true;
-    }
-    is_later_call(word)
-}
-
-/// What a line with this first word is; None where no line begins so.
-pub fn keyword_of(word: &[u8]) -> Option<Keyword>
-    ensures { result ≡ keyword_of word.now }
-{
-    if let Some(keyword) = setup_word(word) {
-        return Some(keyword);
-    }
-    if let Some(keyword) = call_word(word) {
-        return Some(keyword);
-    }
-    if let Some(keyword) = block_word(word) {
-        return Some(keyword);
-    }
-    if is_later(word) {
+    if word == b"mount" {
         return Some(Keyword::Later);
     }
     None
+}
+
+#[tactic(auto, unfolding(crate::specs::Keywords::keywords))]
+fn of_six(word: &[u8]) -> Option<Keyword>
+    ensures { result ≡ look_up (of_length 6 keywords) word.now }
+{
+    let Some(word) = word.as_array::<6>() else {
+        return None;
+    };
+    if word == b"submit" {
+        return Some(Keyword::Submit);
+    }
+    if word == b"revert" {
+        return Some(Keyword::Later);
+    }
+    if word == b"commit" {
+        return Some(Keyword::Later);
+    }
+    if word == b"report" {
+        return Some(Keyword::Later);
+    }
+    if word == b"module" {
+        return Some(Keyword::Module);
+    }
+    if word == b"remove" {
+        return Some(Keyword::Remove);
+    }
+    None
+}
+
+#[tactic(auto, unfolding(crate::specs::Keywords::keywords))]
+fn of_seven(word: &[u8]) -> Option<Keyword>
+    ensures { result ≡ look_up (of_length 7 keywords) word.now }
+{
+    let Some(word) = word.as_array::<7>() else {
+        return None;
+    };
+    if word == b"success" {
+        return Some(Keyword::Success);
+    }
+    if word == b"nomount" {
+        return Some(Keyword::Later);
+    }
+    None
+}
+
+#[tactic(auto, unfolding(crate::specs::Keywords::keywords))]
+fn of_eight(word: &[u8]) -> Option<Keyword>
+    ensures { result ≡ look_up (of_length 8 keywords) word.now }
+{
+    let Some(word) = word.as_array::<8>() else {
+        return None;
+    };
+    if word == b"observer" {
+        return Some(Keyword::Later);
+    }
+    None
+}
+
+/// What a line with this first word is; None where no line begins so. The word is compared with those of its length.
+pub fn keyword_of(word: &[u8]) -> Option<Keyword>
+    ensures { result ≡ keyword_of word.now }
+{
+    match word.len() {
+        3 => of_three(word),
+        4 => of_four(word),
+        5 => of_five(word),
+        6 => of_six(word),
+        7 => of_seven(word),
+        8 => of_eight(word),
+        _ => None,
+    }
 }

@@ -1,36 +1,15 @@
-//! What a line says. Where a line may stand is the business of `draft`.
-ghost use Rattle.std.specs.Prelude.{◌≡◌};
-ghost use Rattle.device_script.specs.Views.{views};
-ghost use Rattle.device_script.specs.Lines.{read_or, scale_line, image_line, pre_line, boot_line, submit_line, ready_line, abort_line, success_line, state_line, words_line, line_of};
-ghost use Rattle.device_script.specs.Taking.{Gives};
+//! What a line says after its first word. Where a line may stand is the business of `draft`.
+ghost use Rattle.std.specs.Prelude.{◌≡◌, Ok, Err, MatchResult};
+ghost use Rattle.device_script.specs.Lines.{read_or, scale_words, print_words, part_words, boot_words, submit_words, id_words, success_words, label_words, path_words, bare_words};
+ghost use Rattle.device_script.specs.Words.{words_of};
 
-mod blocks;
+mod files;
 
-use crate::fault::{LineError, LineFault};
-use crate::keyword::Keyword;
-use crate::words::{PartWord, id, is_plain_kind, part, scale, time, words, workers};
-use apex_base::{Bytes, FilePath, Millis, Name, Print, Scale, SessionId};
-use blocks::{bare_line, file_line, module_line, remove_line, text_line};
-use std::alloc::Global;
-
-/// A line whose words could be read. `File` stands for a `text` line too.
-#[derive(Drop)]
-pub enum Line {
-    Scale(Scale),
-    Image(Print),
-    Pre(PartWord),
-    Boot { time: Millis, workers: u32 },
-    Submit { id: SessionId, part: PartWord },
-    Ready { id: SessionId },
-    Abort { id: SessionId },
-    Success { time: Millis, id: SessionId },
-    State { id: SessionId },
-    Module(Name),
-    File { path: FilePath, content: Bytes },
-    Remove(FilePath),
-    Seal,
-    Done,
-}
+use crate::fault::LineFault;
+use crate::split::{is_bare, one_word, three_words, two_words};
+use crate::words::{PartWord, id, is_plain_kind, part, scale, time, workers};
+use apex_base::{FilePath, Millis, Name, Print, Scale, SessionId};
+pub use files::{file_words, text_said};
 
 /// What was read of the word of a number, or that it couldn't be read.
 fn read_or<T: Drop>(word: u32, read: Option<T>) -> Result<T, LineFault>
@@ -42,53 +21,55 @@ fn read_or<T: Drop>(word: u32, read: Option<T>) -> Result<T, LineFault>
     }
 }
 
-#[tactic(auto, unfolding(crate::specs::Lines::scale_line))]
-fn scale_line(words: &[&[u8]]) -> Result<Line, LineFault>
-    ensures { result ≡ scale_line (views words.now) }
+#[tactic(auto, unfolding(crate::specs::Lines::scale_words))]
+pub fn scale_words(rest: &[u8]) -> Result<Scale, LineFault>
+    ensures { result ≡ scale_words (words_of rest.now) }
 {
-    let [_, word] = words else {
+    let Some(word) = one_word(rest) else {
         return Err(LineFault::Words);
     };
-    Ok(Line::Scale(read_or(2, scale(word))?))
+    read_or(2, scale(word))
 }
 
-#[tactic(auto, unfolding(crate::specs::Lines::image_line))]
-fn image_line(words: &[&[u8]]) -> Result<Line, LineFault>
-    ensures { result ≡ image_line (views words.now) }
+#[tactic(auto, unfolding(crate::specs::Lines::print_words))]
+pub fn print_words(rest: &[u8]) -> Result<Print, LineFault>
+    ensures { result ≡ print_words (words_of rest.now) }
 {
-    let [_, word] = words else {
+    let Some(word) = one_word(rest) else {
         return Err(LineFault::Words);
     };
-    Ok(Line::Image(read_or(2, Print::read(word))?))
+    read_or(2, Print::read(word))
 }
 
-#[tactic(auto, unfolding(crate::specs::Lines::pre_line))]
-fn pre_line(words: &[&[u8]]) -> Result<Line, LineFault>
-    ensures { result ≡ pre_line (views words.now) }
+#[tactic(auto, unfolding(crate::specs::Lines::part_words))]
+pub fn part_words(rest: &[u8]) -> Result<PartWord, LineFault>
+    ensures { result ≡ part_words (words_of rest.now) }
 {
-    let [_, word] = words else {
+    let Some(word) = one_word(rest) else {
         return Err(LineFault::Words);
     };
-    Ok(Line::Pre(read_or(2, part(word))?))
+    read_or(2, part(word))
 }
 
-#[tactic(auto, unfolding(crate::specs::Lines::boot_line))]
-fn boot_line(words: &[&[u8]]) -> Result<Line, LineFault>
-    ensures { result ≡ boot_line (views words.now) }
+/// A moment, and a number of workers.
+#[tactic(auto, unfolding(crate::specs::Lines::boot_words))]
+pub fn boot_words(rest: &[u8]) -> Result<(Millis, u32), LineFault>
+    ensures { result ≡ boot_words (words_of rest.now) }
 {
-    let [_, moment, count] = words else {
+    let Some((moment, count)) = two_words(rest) else {
         return Err(LineFault::Words);
     };
     let time = read_or(2, time(moment))?;
     let workers = read_or(3, workers(count))?;
-    Ok(Line::Boot { time, workers })
+    Ok((time, workers))
 }
 
-#[tactic(auto, unfolding(crate::specs::Lines::submit_line))]
-fn submit_line(words: &[&[u8]]) -> Result<Line, LineFault>
-    ensures { result ≡ submit_line (views words.now) }
+/// An id, `plain`, and a part.
+#[tactic(auto, unfolding(crate::specs::Lines::submit_words))]
+pub fn submit_words(rest: &[u8]) -> Result<(SessionId, PartWord), LineFault>
+    ensures { result ≡ submit_words (words_of rest.now) }
 {
-    let [_, number, kind, module] = words else {
+    let Some((number, kind, module)) = three_words(rest) else {
         return Err(LineFault::Words);
     };
     let id = read_or(2, id(number))?;
@@ -96,87 +77,60 @@ fn submit_line(words: &[&[u8]]) -> Result<Line, LineFault>
         return Err(LineFault::BadWord { word: 3 });
     }
     let part = read_or(4, part(module))?;
-    Ok(Line::Submit { id, part })
+    Ok((id, part))
 }
 
-#[tactic(auto, unfolding(crate::specs::Lines::ready_line))]
-fn ready_line(words: &[&[u8]]) -> Result<Line, LineFault>
-    ensures { result ≡ ready_line (views words.now) }
+#[tactic(auto, unfolding(crate::specs::Lines::id_words))]
+pub fn id_words(rest: &[u8]) -> Result<SessionId, LineFault>
+    ensures { result ≡ id_words (words_of rest.now) }
 {
-    let [_, number] = words else {
+    let Some(word) = one_word(rest) else {
         return Err(LineFault::Words);
     };
-    let id = read_or(2, id(number))?;
-    Ok(Line::Ready { id })
+    read_or(2, id(word))
 }
 
-#[tactic(auto, unfolding(crate::specs::Lines::abort_line))]
-fn abort_line(words: &[&[u8]]) -> Result<Line, LineFault>
-    ensures { result ≡ abort_line (views words.now) }
+/// A moment and an id.
+#[tactic(auto, unfolding(crate::specs::Lines::success_words))]
+pub fn success_words(rest: &[u8]) -> Result<(Millis, SessionId), LineFault>
+    ensures { result ≡ success_words (words_of rest.now) }
 {
-    let [_, number] = words else {
-        return Err(LineFault::Words);
-    };
-    let id = read_or(2, id(number))?;
-    Ok(Line::Abort { id })
-}
-
-#[tactic(auto, unfolding(crate::specs::Lines::success_line))]
-fn success_line(words: &[&[u8]]) -> Result<Line, LineFault>
-    ensures { result ≡ success_line (views words.now) }
-{
-    let [_, moment, number] = words else {
+    let Some((moment, number)) = two_words(rest) else {
         return Err(LineFault::Words);
     };
     let time = read_or(2, time(moment))?;
     let id = read_or(3, id(number))?;
-    Ok(Line::Success { time, id })
+    Ok((time, id))
 }
 
-#[tactic(auto, unfolding(crate::specs::Lines::state_line))]
-fn state_line(words: &[&[u8]]) -> Result<Line, LineFault>
-    ensures { result ≡ state_line (views words.now) }
+#[tactic(auto, unfolding(crate::specs::Lines::label_words))]
+pub fn label_words(rest: &[u8]) -> Result<Name, LineFault>
+    ensures { result ≡ label_words (words_of rest.now) }
 {
-    let [_, number] = words else {
+    let Some(word) = one_word(rest) else {
         return Err(LineFault::Words);
     };
-    let id = read_or(2, id(number))?;
-    Ok(Line::State { id })
+    read_or(2, Name::read(word))
 }
 
-#[tactic(auto, unfolding(crate::specs::Lines::words_line))]
-fn words_line(keyword: Keyword, words: &[&[u8]]) -> Result<Line, LineFault>
-    ensures { result ≡ words_line keyword (views words.now) }
+#[tactic(auto, unfolding(crate::specs::Lines::path_words))]
+pub fn path_words(rest: &[u8]) -> Result<FilePath, LineFault>
+    ensures { result ≡ path_words (words_of rest.now) }
 {
-    match keyword {
-        Keyword::Scale => scale_line(words),
-        Keyword::Image => image_line(words),
-        Keyword::Pre => pre_line(words),
-        Keyword::Boot => boot_line(words),
-        Keyword::Submit => submit_line(words),
-        Keyword::Ready => ready_line(words),
-        Keyword::Abort => abort_line(words),
-        Keyword::Success => success_line(words),
-        Keyword::State => state_line(words),
-        Keyword::Module => module_line(words),
-        Keyword::Remove => remove_line(words),
-        Keyword::Seal => bare_line(Line::Seal, words),
-        Keyword::Done => bare_line(Line::Done, words),
-        Keyword::File | Keyword::Text | Keyword::Later => Err(LineFault::NotYet),
-    }
+    let Some(word) = one_word(rest) else {
+        return Err(LineFault::Words);
+    };
+    read_or(2, FilePath::read(word))
 }
 
-/// What a line says whose first word is this keyword. The content of a `text` line is copied once, and its
-/// words aren't listed: there may be half a million.
-pub fn line_of(alloc: Global, keyword: Keyword, line: &[u8]) -> Result<Line, LineError>
-    ensures { Gives result (line_of keyword line.now) }
+/// Nothing more.
+#[tactic(auto, unfolding(crate::specs::Lines::bare_words))]
+pub fn bare_words(rest: &[u8]) -> Result<(), LineFault>
+    ensures { MatchResult result (λ _. bare_words (words_of rest.now) ≡ Ok tt) (λ fault. bare_words (words_of rest.now) ≡ Err fault) }
 {
-    if let Keyword::Text = keyword {
-        return text_line(alloc, line);
+    if is_bare(rest) {
+        Ok(())
+    } else {
+        Err(LineFault::Words)
     }
-    let words = words(alloc, line)?;
-    if let Keyword::File = keyword {
-        return file_line(alloc, &words);
-    }
-    Ok(words_line(keyword, &words)?)
 }

@@ -1,17 +1,15 @@
 //! The script that bytes are, or the first line that is none.
 ghost use Rattle.std.specs.Prelude.{◌≡◌, ◌≤◌, length, IfOk};
 ghost use Rattle.std.specs.Str.Lines.{strip_carriage_return, lines};
+ghost use Rattle.apex_world.specs.Orders.{HasOrders};
 ghost use Rattle.apex_world.specs.Playable.{IsPlayable};
-ghost use Rattle.device_script.specs.Script.{is_passed, is_plain, line_read, lines_read, script_of, first_keyword, told_of, IsRead};
+ghost use Rattle.device_script.specs.Script.{is_passed, is_plain, words_read, line_read, lines_read, script_of, told_of, IsRead};
 ghost use Rattle.device_script.specs.Draft.{start};
-ghost use Rattle.device_script.specs.ReadImages.{HasReadImages};
-ghost use Rattle.device_script.specs.Words.{words_of};
 ghost use Rattle.device_script.specs.Taking.{Takes};
 
 use crate::draft::Draft;
 use crate::fault::{LineError, LineFault, ScriptWhy};
-use crate::keyword::{Keyword, keyword_of};
-use crate::line::line_of;
+use crate::keyword::keyword_of;
 use crate::words::cut_word;
 use apex_base::cut_first;
 use apex_world::Script;
@@ -32,10 +30,15 @@ fn is_passed(line: &[u8]) -> bool
     true
 }
 
+/// Whether every byte is a printable one. The loop has no early exit, so that it looks at many bytes at a time.
 fn is_plain(line: &[u8]) -> bool
     ensures { result ≡ is_plain line.now }
 {
-    line.iter().all(|b| *b >= 32 && *b <= 126)
+    let mut plain = true;
+    for b in line {
+        plain = plain & (*b >= 32) & (*b <= 126);
+    }
+    plain
 }
 
 fn without_return(line: &[u8]) -> &[u8]
@@ -52,15 +55,6 @@ fn without_return(line: &[u8]) -> &[u8]
     }
 }
 
-fn first_keyword(line: &[u8]) -> Option<Keyword>
-    ensures { result ≡ first_keyword (words_of line.now) }
-{
-    match cut_word(line) {
-        None => None,
-        Some((word, _)) => keyword_of(word),
-    }
-}
-
 /// The error of a line, told of its number.
 fn told_of(line: u32, e: LineError) -> ScriptWhy
     ensures { result ≡ told_of line e }
@@ -71,28 +65,40 @@ fn told_of(line: u32, e: LineError) -> ScriptWhy
     }
 }
 
+/// Reads a line of that number into the draft, where it isn't passed over. It stands apart from `read_line`, so that a
+/// comment doesn't pay for what a line of words needs.
+#[inline(never)]
+fn read_words(draft: &mut Draft, alloc: Global, number: u32, line: &[u8]) -> Result<(), LineError>
+    ensures { Takes result draft.new (words_read draft.old number line.now) }
+{
+    if !is_plain(line) {
+        return Err(LineError::Fault(LineFault::BadByte));
+    }
+    let Some((word, rest)) = cut_word(line) else {
+        return Err(LineError::Fault(LineFault::UnknownWord));
+    };
+    let Some(keyword) = keyword_of(word) else {
+        return Err(LineError::Fault(LineFault::UnknownWord));
+    };
+    if draft.is_not_yet(keyword, rest) {
+        return Err(LineError::Fault(LineFault::NotYet));
+    }
+    if !draft.may_stand(keyword) {
+        return Err(LineError::Fault(LineFault::BadPlace));
+    }
+    draft.take(alloc, number, keyword, rest)
+}
+
 /// Reads a line of that number into the draft.
 #[tactic(auto, unfolding(crate::specs::Script::line_read))]
 fn read_line(draft: &mut Draft, alloc: Global, number: u32, line: &[u8]) -> Result<(), LineError>
     ensures { Takes result draft.new (line_read draft.old number line.now) }
 {
     if is_passed(line) {
-        return Ok(());
+        Ok(())
+    } else {
+        read_words(draft, alloc, number, line)
     }
-    if !is_plain(line) {
-        return Err(LineError::Fault(LineFault::BadByte));
-    }
-    let Some(keyword) = first_keyword(line) else {
-        return Err(LineError::Fault(LineFault::UnknownWord));
-    };
-    if draft.is_not_yet(keyword, line) {
-        return Err(LineError::Fault(LineFault::NotYet));
-    }
-    if !draft.may_stand(keyword) {
-        return Err(LineError::Fault(LineFault::BadPlace));
-    }
-    let line = line_of(alloc, keyword, line)?;
-    draft.take(alloc, number, line)
 }
 
 /// Reads lines into a draft, the first of which is line 1.
@@ -141,12 +147,11 @@ fn read(alloc: Global, bytes: &[u8]) -> Result<Script, ScriptWhy>
 pub fn read_script(alloc: Global, bytes: &[u8]) -> Result<Script, ScriptWhy>
     ensures script { IsRead result (script_of bytes.now) }
 
-    // Boots and steps of a script can be numbered, since it isn't long.
+    // Boots and steps of a script can be numbered, since it isn't long, and a segment has each lane number once.
     ensures playable { IfOk result IsPlayable }
 
-    // The image of each boot has each name once and no more modules than the scale allows, and a module's manifest
-    // says its name and version.
-    ensures images { IfOk result HasReadImages }
+    // Each boot is at the script's scale, its order is as a boot asks, and it has 1 to 64 workers.
+    ensures orders { IfOk result HasOrders }
 {
     match read(alloc, bytes) {
         Err(e) => Err(e),

@@ -1,8 +1,8 @@
 //! Scripts and the lines that make bytes none, worked out by hand from `docs/formats/script.md`.
 use crate::{LineFault, ScriptBoot, ScriptWhy, read_script};
-use apex_base::{ModuleFault, Name, Scale, Version};
+use apex_base::{Boxed, ModuleFault, Name, Scale, Version};
 use apex_manifest::ManifestWhy;
-use apex_world::{Call, SharedModule};
+use apex_world::{CallRef, Placed, SharedModule};
 use std::alloc::{AllocError, Global};
 use std::test::Fail;
 
@@ -54,31 +54,33 @@ fn content_text(alloc: Global, content: &SharedModule) -> Result<String, Fail> {
     }
 }
 
-fn call_text(alloc: Global, call: &Call) -> Result<String, Fail> {
+fn call_text(alloc: Global, call: &CallRef) -> Result<String, Fail> {
     match call {
-        Call::Submit {
+        CallRef::Submit {
             id,
             children,
             rollback,
             parts,
         } => {
-            let children = children.as_slice().len();
+            let children = children.len();
             let mut text = format!(in alloc; "submit {} {rollback} {children}", id.0)?;
-            for part in parts.as_slice() {
+            for part in *parts {
                 text.push_str(" ")?;
                 text.push_str(&content_text(alloc, part)?)?;
             }
             Ok(text)
         }
-        Call::Ready { id } => Ok(format!(in alloc; "ready {}", id.0)?),
-        Call::Abort { id } => Ok(format!(in alloc; "abort {}", id.0)?),
-        Call::Success { time, id } => Ok(format!(in alloc; "success {} {}", time.number(), id.0)?),
-        Call::StateOf { id } => Ok(format!(in alloc; "state {}", id.0)?),
+        CallRef::Ready { id } => Ok(format!(in alloc; "ready {}", id.0)?),
+        CallRef::Abort { id } => Ok(format!(in alloc; "abort {}", id.0)?),
+        CallRef::Success { time, id } => {
+            Ok(format!(in alloc; "success {} {}", time.number(), id.0)?)
+        }
+        CallRef::StateOf { id } => Ok(format!(in alloc; "state {}", id.0)?),
         _ => Ok(format!(in alloc; "no line makes this call")?),
     }
 }
 
-/// A boot in words: its moment, workers, fingerprint and modules, and its calls, each behind its lane.
+/// A boot in words: its moment, workers, fingerprint and modules, and its calls, each after its lane.
 pub fn boot_text(alloc: Global, boot: &ScriptBoot) -> Result<String, Fail> {
     let image = boot.order.image.get();
     let print = str::from_utf8(image.print.as_bytes())?;
@@ -87,14 +89,13 @@ pub fn boot_text(alloc: Global, boot: &ScriptBoot) -> Result<String, Fail> {
         text.push_str(" ")?;
         text.push_str(&module_text(alloc, &part.name, part.version)?)?;
     }
-    for segment in boot.segments.as_slice() {
-        text.push_str(";")?;
-        for lane in segment.lanes.as_slice() {
-            for call in lane.calls.as_slice() {
-                let call = call_text(alloc, call)?;
-                text.push_str(&format!(in alloc; " {} {call}", lane.number)?)?;
-            }
-        }
+    for step in boot.segments.steps() {
+        let call = match step.placed() {
+            Placed::Plain(call) => call_text(alloc, &call)?,
+            Placed::Lanes(_) => format!(in alloc; "no line makes lanes")?,
+        };
+        text.push_str("; 0 ")?;
+        text.push_str(&call)?;
     }
     Ok(text)
 }
@@ -131,10 +132,10 @@ fn the_example_of_the_page_is_read(rt: HostRuntime) -> Result<(), Fail> {
 #[test]
 fn the_example_with_a_bad_line_is_refused(rt: HostRuntime) -> Result<(), Fail> {
     let no_manifest = LineFault::BadModule {
-        fault: ModuleFault::NoManifest,
+        fault: Boxed::new(rt.alloc(), ModuleFault::NoManifest)?,
     };
     let no_version = LineFault::BadModule {
-        fault: ModuleFault::NoVersion,
+        fault: Boxed::new(rt.alloc(), ModuleFault::NoVersion)?,
     };
     let table = [
         (2, "image S1B2", 2, LineFault::BadPlace),
@@ -340,7 +341,7 @@ fn a_script_has_16777216_bytes_at_most(rt: HostRuntime) -> Result<(), Fail> {
 #[test]
 fn a_fault_prints_its_word(rt: HostRuntime) -> Result<(), Fail> {
     let no_listing = LineFault::BadModule {
-        fault: ModuleFault::BadListing { line: 7 },
+        fault: Boxed::new(rt.alloc(), ModuleFault::BadListing { line: 7 })?,
     };
     let table = [
         (LineFault::TooLong, "too-long"),

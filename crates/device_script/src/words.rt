@@ -1,10 +1,12 @@
 //! The words of a line, and what single words say.
-ghost use Rattle.std.specs.Prelude.{◌≡◌, ◌==◌, ◌<◌, ◌≤◌, ◌∷◌, [], map, length, position, if◌then◌else◌, nat_le, MatchOption, IfSome, IfOk, Some, None, option_map};
-ghost use Rattle.std.specs.List.{slice_split, list_all};
-ghost use Rattle.device_script.specs.Words.{words_of, is_digit, is_number, value_of, number_of, scale_of, id_of, time_of, workers_of, content_of, short_of, part_of, is_plain_kind, cut_at_space, cut_word};
+ghost use Rattle.std.specs.Prelude.{◌≡◌, ◌==◌, ◌&&◌, ◌<◌, ◌≤◌, ◌∷◌, [], length, position, if◌then◌else◌, nat_le, MatchOption, IfSome, IfOk, Some, None, option_map};
+ghost use Rattle.std.specs.List.{list_all};
+ghost use Rattle.device_script.specs.Words.{words_of, is_digit, value_of, number_of, scale_of, id_of, time_of, workers_of, content_of, short_of, part_of, is_plain_kind, cut_at, cut_at_space, cut_word};
 
-use apex_base::{Bytes, Listed, Millis, Name, Scale, SessionId, Version, cut_first, place_of};
-use hex::FromHexError;
+mod hexadecimal;
+
+use apex_base::{Bytes, Listed, Millis, Name, Scale, SessionId, Version, place_in_word, place_of};
+use hexadecimal::bytes_of;
 use std::alloc::{AllocError, Global};
 
 /// How a word names a module.
@@ -16,11 +18,26 @@ pub enum PartWord {
     Label(Name),
 }
 
-/// What stands before the first space, and what stands behind it.
-fn cut_at_space(bytes: &[u8]) -> (&[u8], &[u8])
-    ensures { (result.0.now, result.1.now) ≡ cut_at_space bytes.now }
+/// What stands from the first byte on that is no space; None where there is none.
+fn behind_spaces(line: &[u8]) -> Option<&[u8]>
+    ensures cut { option_map (λ rest. cut_at_space rest.now) result ≡ cut_word line.now }
+    ensures words { MatchOption result (words_of line.now ≡ [])
+        (λ rest. words_of line.now ≡ (cut_at_space rest.now).0 ∷ words_of (cut_at_space rest.now).1) }
 {
-    match place_of(bytes, b' ') {
+    for (i, b) in line.iter().enumerate() {
+        if *b != b' ' {
+            return Some(&line[i..]);
+        }
+    }
+    None
+}
+
+/// What stands before the place, and what stands behind it; all stands before none.
+fn cut_at(place: Option<usize>, bytes: &[u8]) -> (&[u8], &[u8])
+    requires { IfSome place (λ i. i < length bytes.now) }
+    ensures { (result.0.now, result.1.now) ≡ cut_at place bytes.now }
+{
+    match place {
         None => (bytes, &bytes[bytes.len()..]),
         Some(at) => (&bytes[..at], &bytes[at + 1..]),
     }
@@ -31,62 +48,42 @@ pub fn cut_word(line: &[u8]) -> Option<(&[u8], &[u8])>
     ensures cut { option_map (λ p. (p.0.now, p.1.now)) result ≡ cut_word line.now }
     ensures words { MatchOption result (words_of line.now ≡ []) (λ p. words_of line.now ≡ p.0.now ∷ words_of p.1.now) }
 {
-    for (i, b) in line.iter().enumerate() {
-        if *b != b' ' {
-            return Some(cut_at_space(&line[i..]));
-        }
+    match behind_spaces(line) {
+        None => None,
+        Some(rest) => Some(cut_at(place_in_word(rest, b' '), rest)),
     }
-    None
 }
 
-/// The words of a line, in order.
-pub fn words(alloc: Global, line: &[u8]) -> Result<Vec<&[u8]>, AllocError>
-    ensures { IfOk result (λ words. map (λ w. w.now) words.items ≡ words_of line.now) }
+/// The same where the word may be long, as a file's digits are.
+pub fn cut_long_word(line: &[u8]) -> Option<(&[u8], &[u8])>
+    ensures cut { option_map (λ p. (p.0.now, p.1.now)) result ≡ cut_word line.now }
+    ensures words { MatchOption result (words_of line.now ≡ []) (λ p. words_of line.now ≡ p.0.now ∷ words_of p.1.now) }
 {
-    let mut words = Vec::new(alloc);
-    let mut rest = line;
-    while let Some((word, behind)) = cut_first(rest, b' ') {
-        if !word.is_empty() {
-            words.push(word)?;
-        }
-        rest = behind;
+    match behind_spaces(line) {
+        None => None,
+        Some(rest) => Some(cut_at(place_of(rest, b' '), rest)),
     }
-    if !rest.is_empty() {
-        words.push(rest)?;
-    }
-    Ok(words)
 }
 
-fn all_digits(digits: &[u8]) -> bool
-    ensures { result ≡ list_all is_digit digits.now }
+/// The number that digits spell; None where a byte is no digit, or the number has more than 64 bits.
+fn value(digits: &[u8]) -> Option<u64>
+    ensures { result ≡ (if list_all is_digit digits.now && nat_le (value_of digits.now) 18446744073709551615 then Some (value_of digits.now) else None) }
 {
-    digits.iter().all(|b| *b >= b'0' && *b <= b'9')
-}
-
-fn is_number(digits: &[u8]) -> bool
-    ensures { result ≡ is_number digits.now }
-{
-    if digits.is_empty() {
-        return false;
-    }
-    if digits.len() > 1 && digits[0] == b'0' {
-        return false;
-    }
-    all_digits(digits)
-}
-
-fn value(digits: &[u8], most: u64) -> Option<u64>
-    ensures value { result ≡ (if nat_le (value_of digits.now) most then Some (value_of digits.now) else None) }
-    ensures small { IfSome result (λ n. n ≤ most) }
-{
-    let mut n: u128 = 0;
-    for d in digits {
-        n = 10 * n + d.saturating_sub(b'0') as u128;
-        if n > most as u128 {
+    let mut n: u64 = 0;
+    for b in digits {
+        let digit = b.wrapping_sub(b'0');
+        if digit > 9 {
             return None;
         }
+        let Some(tens) = n.checked_mul(10) else {
+            return None;
+        };
+        let Some(next) = tens.checked_add(u64::from(digit)) else {
+            return None;
+        };
+        n = next;
     }
-    Some(n as u64)
+    Some(n)
 }
 
 #[tactic(auto, unfolding(crate::specs::Words::number_of))]
@@ -94,10 +91,15 @@ fn number(digits: &[u8], most: u64) -> Option<u64>
     ensures value { result ≡ number_of most digits.now }
     ensures small { IfSome result (λ n. n ≤ most) }
 {
-    if is_number(digits) {
-        value(digits, most)
-    } else {
-        None
+    if digits.is_empty() {
+        return None;
+    }
+    if digits.len() > 1 && digits[0] == b'0' {
+        return None;
+    }
+    match value(digits) {
+        None => None,
+        Some(n) => { if n <= most { Some(n) } else { None } }
     }
 }
 
@@ -148,7 +150,10 @@ pub fn workers(word: &[u8]) -> Option<u32>
 pub fn is_plain_kind(word: &[u8]) -> bool
     ensures { result ≡ is_plain_kind word.now }
 {
-    word == b"plain".as_slice()
+    match word.as_array::<5>() {
+        None => false,
+        Some(word) => word == b"plain",
+    }
 }
 
 /// The bytes that a word in hexadecimal spells, or none where it is a hyphen; None where it spells nothing.
@@ -158,10 +163,9 @@ pub fn content(alloc: Global, word: &[u8]) -> Result<Option<Bytes>, AllocError>
     if word == b"-".as_slice() {
         return Ok(Some(Listed::new(alloc)));
     }
-    match hex::decode(alloc, word) {
-        Ok(bytes) => Ok(Some(Listed::of(bytes))),
-        Err(FromHexError::OutOfMemory) => Err(AllocError),
-        Err(_) => Ok(None),
+    match bytes_of(alloc, word)? {
+        Some(bytes) => Ok(Some(Listed::of(bytes))),
+        None => Ok(None),
     }
 }
 
@@ -170,7 +174,7 @@ pub fn content(alloc: Global, word: &[u8]) -> Result<Option<Bytes>, AllocError>
 fn short(word: &[u8]) -> Option<PartWord>
     ensures { result ≡ short_of word.now }
 {
-    let Some(at) = place_of(word, b'@') else {
+    let Some(at) = place_in_word(word, b'@') else {
         return None;
     };
     let Some(name) = Name::read(&word[..at]) else {

@@ -13,36 +13,33 @@ impl Draft {
     pub(super) fn take_file(&mut self, path: FilePath, content: Bytes) -> Result<(), LineError>
         ensures { Takes result self.new (file_taken self.old path content self.old.block) }
     {
-        let Some(mut block) = self.block.take() else {
-            return Err(LineError::Fault(LineFault::BadPlace));
-        };
-        block.put(path, content)?;
-        self.block = Some(block);
-        Ok(())
+        match &mut self.block {
+            None => Err(LineError::Fault(LineFault::BadPlace)),
+            Some(block) => block.put(path, content),
+        }
     }
 
     /// A file of the open block is removed, if there is one.
     pub(super) fn take_remove(&mut self, path: &FilePath) -> Result<(), LineError>
         ensures { Takes result self.new (remove_taken self.old path.now self.old.block) }
     {
-        let Some(mut block) = self.block.take() else {
-            return Err(LineError::Fault(LineFault::BadPlace));
-        };
-        block.remove(path);
-        self.block = Some(block);
-        Ok(())
+        match &mut self.block {
+            None => Err(LineError::Fault(LineFault::BadPlace)),
+            Some(block) => {
+                block.remove(path);
+                Ok(())
+            }
+        }
     }
 
     /// The listing of the open block is written or replaced.
     pub(super) fn take_seal(&mut self, alloc: Global) -> Result<(), LineError>
         ensures { Takes result self.new (seal_taken self.old self.old.block) }
     {
-        let Some(mut block) = self.block.take() else {
-            return Err(LineError::Fault(LineFault::BadPlace));
-        };
-        block.seal(alloc)?;
-        self.block = Some(block);
-        Ok(())
+        match &mut self.block {
+            None => Err(LineError::Fault(LineFault::BadPlace)),
+            Some(block) => block.seal(alloc),
+        }
     }
 
     /// The block ends, and its label stands for its module from now on.

@@ -1,27 +1,16 @@
 //! What lines outside blocks make of a draft: its image, its boots and their calls.
-ghost use Rattle.std.specs.Prelude.{◌≡◌, IfOk};
-ghost use Rattle.device_script.specs.Draft.{plain_segment};
-
 use super::Draft;
 use crate::fault::{LineError, LineFault};
 use crate::image::{image_with, package_of};
 use crate::words::PartWord;
 use apex_base::{Listed, Millis, Print, Scale, SessionId, Shared};
-use apex_world::{BootOrder, Call, Image, Lane, ScriptBoot, Segment, SharedModule};
+use apex_world::{BootOrder, Image, ScriptBoot, SegmentList, SharedModule, SingleSubmit, Step};
 use std::alloc::{AllocError, Global};
-
-/// A segment of one call outside lane blocks.
-fn plain_segment(alloc: Global, call: Call) -> Result<Segment, AllocError>
-    ensures { IfOk result (λ segment. segment ≡ plain_segment call) }
-{
-    let calls = Listed::one(alloc, call)?;
-    let lanes = Listed::one(alloc, Lane { number: 0, calls })?;
-    Ok(Segment { cut: None, lanes })
-}
 
 impl Draft {
     ghost use Rattle.std.specs.Prelude.{◌≡◌, OnOk};
-    ghost use Rattle.device_script.specs.Draft.{closed, scale_taken, image_taken, pre_taken, boot_taken, call_taken, submit_taken};
+    ghost use Rattle.device_script.specs.Draft.{closed, scale_taken, image_taken, pre_taken, boot_taken, segment_taken, submit_taken};
+    ghost use Rattle.apex_world.specs.Segments.{segment_of};
     ghost use Rattle.device_script.specs.Images.{module_named};
     ghost use Rattle.device_script.specs.Taking.{Takes, Gives};
 
@@ -118,21 +107,19 @@ impl Draft {
             mounts: Listed::new(alloc),
             workers,
             cut: None,
-            segments: Listed::new(alloc),
+            segments: SegmentList::new(alloc),
         });
         Ok(())
     }
 
-    /// A call behind the last boot.
-    pub(super) fn take_call(&mut self, alloc: Global, call: Call) -> Result<(), LineError>
-        ensures { Takes result self.new (call_taken self.old call self.old.current) }
+    /// A segment after the last boot.
+    pub(super) fn take_step(&mut self, step: Step) -> Result<(), LineError>
+        ensures { Takes result self.new (segment_taken self.old (segment_of step) self.old.current) }
     {
-        let Some(mut boot) = self.current.take() else {
-            return Err(LineError::Fault(LineFault::BadPlace));
-        };
-        boot.segments.push(plain_segment(alloc, call)?)?;
-        self.current = Some(boot);
-        Ok(())
+        match &mut self.current {
+            None => Err(LineError::Fault(LineFault::BadPlace)),
+            Some(boot) => Ok(boot.segments.push(step)?),
+        }
     }
 
     #[tactic(auto, unfolding(crate::specs::Draft::submit_taken))]
@@ -144,17 +131,9 @@ impl Draft {
     ) -> Result<(), LineError>
         ensures { Takes result self.new (submit_taken self.old id part.now) }
     {
-        let module = self.module_named(alloc, 4, part)?;
-        let parts = Listed::one(alloc, module)?;
-        let children = Listed::new(alloc);
-        self.take_call(
-            alloc,
-            Call::Submit {
-                id,
-                children,
-                rollback: false,
-                parts,
-            },
-        )
+        let part = self.module_named(alloc, 4, part)?;
+        let rollback = false;
+        let submit = Box::new(alloc, SingleSubmit { id, rollback, part })?;
+        self.take_step(Step::Submit(submit))
     }
 }

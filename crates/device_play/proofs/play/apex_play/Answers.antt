@@ -4,7 +4,7 @@ use Rattle.apex_base.specs.Outside.{PutFront}
 use Rattle.apex_world.specs.Text.{out}
 use Rattle.device_play.specs.declared.play.Played.{Played}
 use Rattle.device_play.proofs.PlayedLemmas.{none_in_order, played_put}
-use Rattle.device_play.proofs.Statuses.{long_bad_line, long_refused, same_script}
+use Rattle.device_play.proofs.Statuses.{long_bad_line, long_refused, no_refusal, same_script}
 use Rattle.device_play.proofs.play.apex_play.Goals as goal
 
 pub returns-then-not-is_play-clause-turns : goal.returns-then-not-is_play-clause-turns
@@ -36,4 +36,9 @@ returns-clause-text g c = λ script has.
     let same = same_script _ _ _ script _ c.in-Ok.ensures.all c.in-Ok.ensures.end has read in
     let old = g.K.Sink.held c.args.sink.now in
     let new = g.K.Sink.held c.play_script.new.sink in
-    rw c.of.ensures (subst (λ s. PutFront old new (out s c.play_script.new.self.turns.items)) same (played_put _ _ _ _ _ c.play_script.ensures.played))
+    rw c.into_turns.ensures (subst (λ s. PutFront old new (out s c.play_script.new.self.turns.items)) same (played_put _ _ _ _ _ c.play_script.ensures.played))
+
+pub returns-clause-no_script : goal.returns-clause-no_script
+returns-clause-no_script g c = λ why none.
+    let read : script_of c.in-Ok.bytes.items ≡ Ok c.in-Ok-read_script.script = search rules in
+    absurd (no_refusal _ _ _ why _ c.in-Ok.ensures.all c.in-Ok.ensures.end none read)

@@ -18,6 +18,6 @@ returns-clause-place c = record {
   session = c.in_ok-session.session;
   plain = ap (λ (r : Record). r.kind) c.in_ok-session.ensures;
   sessions = c.in_ok-insert.ensures.items;
-  submission = record { session = c.args.id; part = 0; content = c.args.p };
+  submission = record { session = c.args.id; part = 0; content = c.args.p.content };
   modules = c.in_ok-push.ensures.items;
 }

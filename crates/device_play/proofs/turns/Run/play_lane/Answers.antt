@@ -11,7 +11,7 @@ returns-in_err-play_call-clause-ran g c =
     let lt : i < length xs = omega (arith, ap length c.as_slice-call-items.ensures) in
     let here : x ≡ get_or xs i x = rw c.as_slice-call-items.ensures at c.call-item.is in
     ran_err _ _ _ _ c.from_residual.ensures.0
-    (Stopped-at _ _ _ _ _ _ _ (call_plan_at c.args.boot c.args.lane.now.number c.args.behind i (c.loop-call.step + 1) xs x lt here (omega arith)) c.loop-call.invariant.went c.in_err-play_call.ensures.ran)
+    (Stopped-at _ _ _ _ _ _ _ (call_plan_at c.args.boot c.args.lane.now.number c.args.behind i (c.loop-call.step + 1) xs x lt here (omega arith)) c.loop-call.invariant.went (rw c.borrowed.ensures at c.in_err-play_call.ensures.ran))
 
 pub loop-call-preserved : goal.loop-call-preserved
 loop-call-preserved g c =
@@ -21,7 +21,7 @@ loop-call-preserved g c =
     let lt : i < length xs = omega (arith, ap length c.as_slice-call-items.ensures) in
     let here : x ≡ get_or xs i x = rw c.as_slice-call-items.ensures at c.call-item.is in
     record {
-      went = Went-next _ _ _ _ _ _ (call_plan_next c.args.boot c.args.lane.now.number c.args.behind i (c.loop-call.step + 1) xs x lt here (omega arith)) c.loop-call.invariant.went c.in_ok-play_call.ensures.ran;
+      went = Went-next _ _ _ _ _ _ (call_plan_next c.args.boot c.args.lane.now.number c.args.behind i (c.loop-call.step + 1) xs x lt here (omega arith)) c.loop-call.invariant.went (rw c.borrowed.ensures at c.in_ok-play_call.ensures.ran);
       count = omega arith;
       faults = faults_more _ _ _ _ _ c.loop-call.invariant.faults c.in_ok-play_call.ensures.faults;
       boots = c.in_ok-play_call.ensures.boots ∙ c.loop-call.invariant.boots;

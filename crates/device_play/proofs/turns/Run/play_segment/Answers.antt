@@ -5,6 +5,33 @@ use Rattle.device_play.proofs.Puts.{faults_more}
 use Rattle.device_play.proofs.Runs.{Stopped-at, Went-next, ran_err, block_plan_at, block_plan_next, next_of}
 use Rattle.device_play.proofs.turns.Run.play_segment.Goals as goal
 
+pub bounds-steps-lane : goal.bounds-steps-lane
+bounds-steps-lane g c =
+    let s = c.args.segment.now in
+    let l = c.lane-item.result in
+    let j = c.loop-lane.lane-index in
+    let lt : j < length s.lanes = omega (arith, ap length c.as_slice-lane-items.ensures) in
+    let here : l ≡ get_or s.lanes j l = rw c.as_slice-lane-items.ensures at c.lane-item.is in
+    omega (arith, (lane_playable (2 ^ 32) c.args.boot.now c.args.at j s l c.requires.playable c.requires.within c.requires.here lt here).number)
+
+pub play_lane-requires-clause-playable : goal.play_lane-requires-clause-playable
+play_lane-requires-clause-playable g c =
+    let s = c.args.segment.now in
+    let l = c.lane-item.result in
+    let j = c.loop-lane.lane-index in
+    let lt : j < length s.lanes = omega (arith, ap length c.as_slice-lane-items.ensures) in
+    let here : l ≡ get_or s.lanes j l = rw c.as_slice-lane-items.ensures at c.lane-item.is in
+    lane_playable (2 ^ 32) c.args.boot.now c.args.at j s l c.requires.playable c.requires.within c.requires.here lt here
+
+pub bounds-steps-lane-in-loop-lane : goal.bounds-steps-lane-in-loop-lane
+bounds-steps-lane-in-loop-lane g c =
+    let s = c.args.segment.now in
+    let l = c.lane-item.result in
+    let j = c.loop-lane.lane-index in
+    let lt : j < length s.lanes = omega (arith, ap length c.as_slice-lane-items.ensures) in
+    let here : l ≡ get_or s.lanes j l = rw c.as_slice-lane-items.ensures at c.lane-item.is in
+    omega (arith, (lane_playable (2 ^ 32) c.args.boot.now c.args.at j s l c.requires.playable c.requires.within c.requires.here lt here).number)
+
 pub play_lane-requires-clause-few : goal.play_lane-requires-clause-few
 play_lane-requires-clause-few g c =
     let s = c.args.segment.now in

@@ -1,0 +1,121 @@
+//! The segments of a boot. Most are one call outside lane blocks, and take 16 bytes.
+ghost use Rattle.std.specs.Prelude.{◌≡◌, ◌++◌, ◌∷◌, [], map, OnOk};
+ghost use Rattle.apex_world.specs.Calls.{call_at};
+ghost use Rattle.apex_world.specs.Segments.{segment_at, segment_of, single_submit};
+
+use crate::{Call, CallRef, Segment, SharedModule};
+use apex_base::{Millis, SessionId};
+use std::alloc::{AllocError, Global};
+use std::marker::Model;
+use std::mem::size_of;
+use std::slice;
+
+/// A submit of one part without children, as it stands outside lane blocks.
+#[derive(Drop)]
+pub struct SingleSubmit {
+    pub id: SessionId,
+    pub rollback: bool,
+    pub part: SharedModule,
+}
+
+/// How a segment stands in memory. The common calls outside lane blocks have forms of their own.
+#[derive(Drop)]
+pub enum Step {
+    Submit(Box<SingleSubmit>),
+    Ready { id: SessionId },
+    Abort { id: SessionId },
+    Success { id: SessionId, time: Millis },
+    StateOf { id: SessionId },
+    /// Any other call outside lane blocks.
+    Other(Box<Call>),
+    /// Lanes, or a segment with a cut.
+    Lanes(Box<Segment>),
+}
+
+const _: () = prove!(size_of::<Step>() == 16);
+
+/// A segment where it stands: one call outside lane blocks, or lanes.
+#[derive(Clone, Copy)]
+pub enum Placed<'a> {
+    Plain(CallRef<'a>),
+    Lanes(&'a Segment),
+}
+
+impl SingleSubmit {
+    fn borrowed(&self) -> CallRef<'_>
+        ensures { call_at result ≡ single_submit self.now }
+    {
+        CallRef::Submit {
+            id: self.id,
+            children: &[],
+            rollback: self.rollback,
+            parts: slice::from_ref(&self.part),
+        }
+    }
+}
+
+impl Step {
+    /// The segment where it stands.
+    pub fn placed(&self) -> Placed<'_>
+        ensures { segment_at result ≡ segment_of self.now }
+    {
+        match self {
+            Step::Submit(submit) => Placed::Plain(submit.borrowed()),
+            Step::Ready { id } => Placed::Plain(CallRef::Ready { id: *id }),
+            Step::Abort { id } => Placed::Plain(CallRef::Abort { id: *id }),
+            Step::Success { id, time } => Placed::Plain(CallRef::Success {
+                time: *time,
+                id: *id,
+            }),
+            Step::StateOf { id } => Placed::Plain(CallRef::StateOf { id: *id }),
+            Step::Other(call) => Placed::Plain(call.borrowed()),
+            Step::Lanes(segment) => Placed::Lanes(segment),
+        }
+    }
+}
+
+/// Segments, seen as a list.
+#[derive(Drop)]
+pub struct SegmentList {
+    steps: Vec<Step>,
+}
+
+impl Model for SegmentList {
+    ghost use Rattle.std.specs.Prelude.{List, map};
+    ghost use Rattle.std.specs.Coded.{coded_list};
+    ghost use Rattle.apex_world.specs.contracts.script.Segment as segment;
+    ghost use Rattle.apex_world.specs.declared.script.Segment.{Segment};
+    ghost use Rattle.apex_world.specs.Segments.{segment_of};
+
+    ghost Value = { List Segment };
+
+    ghost coded = { coded_list segment.the_row.coded };
+
+    ghost view = { λ list. map segment_of list.steps.items };
+}
+
+impl SegmentList {
+    /// No segment. It takes no memory.
+    pub fn new(alloc: Global) -> Self
+        ensures { result ≡ [] }
+    {
+        SegmentList {
+            steps: Vec::new(alloc),
+        }
+    }
+
+    /// Adds a segment at the end. The list may be of any content where memory runs out.
+    pub fn push(&mut self, step: Step) -> Result<(), AllocError>
+        ensures { OnOk result (self.new ≡ self.old ++ segment_of step ∷ []) }
+    {
+        self.steps.push(step)?;
+        Ok(())
+    }
+
+    /// The segments as they stand in memory.
+    pub fn steps(&self) -> &[Step]
+        ensures { map segment_of result.now ≡ self.now }
+    {
+        &self.steps
+    }
+}
