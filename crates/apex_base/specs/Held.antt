@@ -1,6 +1,7 @@
 -- Which targets names have, and which are kept, by the sessions that were ever made: docs/sessions.md,
 -- "Held and before" and "Kept".
-use Rattle.std.specs.Prelude.{ℕ, ◌&&◌, ◌||◌, ◌==◌, Bool, true, false, nat_lt, List, [], ◌∷◌, ◌++◌, Option, Some, None, find, fold, flat_map, if◌then◌else◌}
+use Rattle.std.specs.Prelude.{ℕ, ◌&&◌, ◌||◌, ◌==◌, Bool, true, false, nat_lt, List, [], ◌∷◌, ◌++◌, Option, Some, None}
+use Rattle.std.specs.Prelude.{find, fold, flat_map, if◌then◌else◌}
 use Rattle.std.specs.List.{list_any}
 use Rattle.std.specs.Option.{option_map}
 use Rattle.std.specs.Str.{bytes_eq}
@@ -19,55 +20,36 @@ abbrev pub is_unfinished : State → Bool
 is_unfinished state.Verified = true
 is_unfinished state.Staged = true
 is_unfinished state.Activated = true
-is_unfinished state.ActivationFailed = false
-is_unfinished state.Success = false
 is_unfinished state.RevertInProgress = true
-is_unfinished state.Reverted = false
-is_unfinished state.Aborted = false
+is_unfinished _ = false
 
 -- the state of a session that can still be undone
 abbrev pub is_undoable : State → Bool
-is_undoable state.Verified = false
-is_undoable state.Staged = false
 is_undoable state.Activated = true
-is_undoable state.ActivationFailed = false
-is_undoable state.Success = false
 is_undoable state.RevertInProgress = true
-is_undoable state.Reverted = false
-is_undoable state.Aborted = false
+is_undoable _ = false
 
-abbrev pub is_available : Option RollbackState → Bool
-is_available None = false
-is_available (Some rollbacks.Enabling) = false
-is_available (Some rollbacks.Available) = true
-is_available (Some rollbacks.Committed) = false
-is_available (Some rollbacks.Deleted) = false
-
--- the state of a session whose modules stand
+-- the state of a session whose modules count
 abbrev pub is_standing : State → Bool
-is_standing state.Verified = false
-is_standing state.Staged = false
 is_standing state.Activated = true
-is_standing state.ActivationFailed = false
 is_standing state.Success = true
 is_standing state.RevertInProgress = true
-is_standing state.Reverted = false
-is_standing state.Aborted = false
+is_standing _ = false
 
 -- the state of a session that was marked successful
 abbrev pub is_success : State → Bool
-is_success state.Verified = false
-is_success state.Staged = false
-is_success state.Activated = false
-is_success state.ActivationFailed = false
 is_success state.Success = true
-is_success state.RevertInProgress = false
-is_success state.Reverted = false
-is_success state.Aborted = false
+is_success _ = false
 
--- the activation boot and the target that a session has for a name, where it counts and names it
+-- there is a rollback, and it is AVAILABLE
+abbrev pub is_available : Option RollbackState → Bool
+is_available (Some rollbacks.Available) = true
+is_available _ = false
+
+-- the activation boot and the target that a session has for a name, if it counts and names it
 abbrev pub candidate : Bool → List ℕ → Record → Option (ℕ × Target)
-candidate counts name r = if counts then option_map (λ p. (r.activation, p.target)) (find (λ p. bytes_eq p.name name) r.parts) else None
+candidate counts name r =
+    if counts then option_map (λ p. (r.activation, p.target)) (find (λ p. bytes_eq p.name name) r.parts) else None
 
 -- the one with the greater activation boot
 abbrev pub later : Option (ℕ × Target) → Option (ℕ × Target) → Option (ℕ × Target)
@@ -92,7 +74,7 @@ abbrev pub before : List Record → Record → List ℕ → Target
 before sessions x name = latest (λ r. is_success r.state && nat_lt r.activation x.activation) sessions name
 
 -- the targets that a session keeps for one of its names: its own while it is unfinished, what the name holds
--- while its modules stand, and what the name held before while it can be undone or rolled back
+-- while its modules count, and what the name held before while it can be undone or rolled back
 abbrev pub kept_for : List Record → Record → Part → List Target
 kept_for sessions r p =
     (if is_unfinished r.state then p.target ∷ [] else [])

@@ -1,5 +1,10 @@
+pub mod Acting
+pub mod Answers
 pub mod Causes
+pub mod Commit
 pub mod Held
+pub mod Keys
+pub mod Members
 pub mod Memory
 pub mod Modules
 pub mod Moves
@@ -7,5 +12,12 @@ pub mod Numbers
 pub mod Outside
 pub mod Padded
 pub mod Ranges
+pub mod Reading
 pub mod Results
+pub mod Rollbacks
+pub mod RowSums
+pub mod Sessions
+pub mod Spelling
+pub mod Tables
 pub mod Text
+pub mod Windows

@@ -3,7 +3,7 @@ use Rattle.std.specs.Prelude.{ℕ, List, drop}
 use Rattle.apex_base.specs.declared.memory.MemSource.{MemSource}
 use Rattle.apex_base.specs.declared.memory.MemSink.{MemSink}
 
--- the bytes behind those that were read
+-- the bytes after those that were read
 abbrev pub source_left : MemSource → List ℕ
 source_left source = drop source.at source.bytes.items
 

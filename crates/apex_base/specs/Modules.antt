@@ -1,5 +1,6 @@
 -- Modules as maps from paths to contents: docs/formats/module.md.
-use Rattle.std.specs.Prelude.{ℕ, ◌+◌, ◌≤◌, ◌&&◌, IsTrue, not, nat_le, nat_lt, List, length, map, sum, IfSome, Option, Some, None, if◌then◌else◌}
+use Rattle.std.specs.Prelude.{ℕ, ◌+◌, ◌≤◌, ◌&&◌, IsTrue, not, nat_le, nat_lt, List, length, map, sum, IfSome, Option}
+use Rattle.std.specs.Prelude.{Some, None, if◌then◌else◌}
 use Rattle.std.specs.List.Sorted.{IsStrictlySortedBy}
 use Rattle.std.specs.Map.{keys_of}
 use Rattle.std.specs.Ordering.{nat_cmp}
@@ -33,7 +34,7 @@ pub record IsModule (m : FileMap) : Type 0 where
   pub short : (path : List ℕ) → IfSome (fin.get m path) (λ content. length content ≤ 1048576)
   pub paths : (path : List ℕ) → IfSome (fin.get m path) (λ content. IsTrue (is_path path))
 
--- how the files of a module stand in memory: ascending by path
+-- how the files of a module are kept in memory: ascending by path
 pub record HoldsModule (entries : List (List ℕ × List ℕ)) : Type 0 where
   pub ascending : IsStrictlySortedBy (slice_cmp nat_cmp) (keys_of entries)
   pub whole : IsModule (fin.from_entries entries)

@@ -3,7 +3,7 @@ use Rattle.std.specs.Prelude.{ℕ, Option, Some, None}
 use Rattle.apex_base.specs.declared.records.State.{State}
 use Rattle.apex_base.specs.declared.records.State.TheVariants as state
 use Rattle.apex_base.specs.declared.moves.Move.{Move}
-use Rattle.apex_base.specs.declared.moves.Move.TheVariants as step
+use Rattle.apex_base.specs.declared.moves.Move.TheVariants as by
 
 -- the number of a state on a device
 abbrev pub state_number : State → ℕ
@@ -16,82 +16,18 @@ state_number state.RevertInProgress = 6
 state_number state.Reverted = 7
 state_number state.Aborted = 8
 
-abbrev pub readied : State → Option State
-readied state.Verified = Some state.Staged
-readied state.Staged = Some state.Staged
-readied state.Activated = None
-readied state.ActivationFailed = None
-readied state.Success = None
-readied state.RevertInProgress = None
-readied state.Reverted = None
-readied state.Aborted = None
-
-abbrev pub aborted : State → Option State
-aborted state.Verified = Some state.Aborted
-aborted state.Staged = Some state.Aborted
-aborted state.Activated = None
-aborted state.ActivationFailed = None
-aborted state.Success = None
-aborted state.RevertInProgress = None
-aborted state.Reverted = None
-aborted state.Aborted = None
-
-abbrev pub succeeded : State → Option State
-succeeded state.Verified = None
-succeeded state.Staged = None
-succeeded state.Activated = Some state.Success
-succeeded state.ActivationFailed = None
-succeeded state.Success = Some state.Success
-succeeded state.RevertInProgress = None
-succeeded state.Reverted = None
-succeeded state.Aborted = None
-
-abbrev pub revert_begun : State → Option State
-revert_begun state.Verified = None
-revert_begun state.Staged = None
-revert_begun state.Activated = Some state.RevertInProgress
-revert_begun state.ActivationFailed = None
-revert_begun state.Success = None
-revert_begun state.RevertInProgress = None
-revert_begun state.Reverted = None
-revert_begun state.Aborted = None
-
-abbrev pub activated : State → Option State
-activated state.Verified = None
-activated state.Staged = Some state.Activated
-activated state.Activated = None
-activated state.ActivationFailed = None
-activated state.Success = None
-activated state.RevertInProgress = None
-activated state.Reverted = None
-activated state.Aborted = None
-
-abbrev pub failed : State → Option State
-failed state.Verified = Some state.ActivationFailed
-failed state.Staged = Some state.ActivationFailed
-failed state.Activated = None
-failed state.ActivationFailed = None
-failed state.Success = None
-failed state.RevertInProgress = None
-failed state.Reverted = None
-failed state.Aborted = None
-
-abbrev pub undone : State → Option State
-undone state.Verified = None
-undone state.Staged = None
-undone state.Activated = Some state.Reverted
-undone state.ActivationFailed = None
-undone state.Success = None
-undone state.RevertInProgress = Some state.Reverted
-undone state.Reverted = None
-undone state.Aborted = None
-
--- the state that a move leads to, where it may begin
+-- the state that a move leads to, if it can begin in this state
 abbrev pub moved : State → Move → Option State
-moved s step.Ready = readied s
-moved s step.Abort = aborted s
-moved s step.Success = succeeded s
-moved s step.Revert = revert_begun s
-moved s step.Activate = activated s
-moved s step.Fail = failed s
-moved s step.Undo = undone s
+moved state.Verified by.Ready = Some state.Staged
+moved state.Staged by.Ready = Some state.Staged
+moved state.Verified by.Abort = Some state.Aborted
+moved state.Staged by.Abort = Some state.Aborted
+moved state.Activated by.Success = Some state.Success
+moved state.Success by.Success = Some state.Success
+moved state.Activated by.Revert = Some state.RevertInProgress
+moved state.Staged by.Activate = Some state.Activated
+moved state.Verified by.Fail = Some state.ActivationFailed
+moved state.Staged by.Fail = Some state.ActivationFailed
+moved state.Activated by.Undo = Some state.Reverted
+moved state.RevertInProgress by.Undo = Some state.Reverted
+moved _ _ = None

@@ -36,7 +36,7 @@ abbrev pub scale_device_len : Scale → ℕ
 scale_device_len Small = 1052672
 scale_device_len Standard = 67112960
 
--- the number that stands on a device
+-- the number that is written to a device
 abbrev pub scale_number : Scale → ℕ
 scale_number Small = 1
 scale_number Standard = 2

@@ -1,23 +1,23 @@
 -- What a read takes, and what a put appends.
 use Rattle.std.specs.Prelude.{◌≡◌, ◌⊎◌, ℕ, List, [], ◌++◌, length, take, Option, Some, None, Result, Ok, Err}
 
--- the first n bytes of what was left stand in the buffer; 0 bytes of a space that isn't empty are the end
-pub record Takes (old new : List ℕ) (n : ℕ) (buffer : List ℕ) : Type 0 where
+-- the first n bytes of what was left are in the buffer; 0 means the end, unless the buffer is empty
+pub record TookFront (old new : List ℕ) (n : ℕ) (buffer : List ℕ) : Type 0 where
   pub taken : old ≡ take n buffer ++ new
   pub end : n ≡ 0 → (length buffer ≡ 0) ⊎ (old ≡ [])
 
--- what a read took of a source that tells what is left; one that doesn't tell may give anything
+-- what a read took of a source that states what is left; one that doesn't state it may give anything
 abbrev pub Took : {E : Type 0} → Option (List ℕ) → Option (List ℕ) → Result ℕ E → List ℕ → Type 0
 Took None new result buffer = Unit {0}
 Took (Some old) new (Err e) buffer = Unit {0}
 Took (Some old) None (Ok n) buffer = ⊥
-Took (Some old) (Some new) (Ok n) buffer = Takes old new n buffer
+Took (Some old) (Some new) (Ok n) buffer = TookFront old new n buffer
 
 -- xs is a front of ys
 abbrev pub IsFront : {X : Type 0} → List X → List X → Type 0
 IsFront {X} xs ys = (rest : List X) × (ys ≡ xs ++ rest)
 
--- a sink that tells what it holds has gained a front of the text
+-- a sink that states what it holds has gained a front of the text
 abbrev pub PutFront : Option (List ℕ) → Option (List ℕ) → List ℕ → Type 0
 PutFront None new text = Unit {0}
 PutFront (Some old) None text = ⊥
@@ -29,7 +29,7 @@ PutAll None new text = Unit {0}
 PutAll (Some old) None text = ⊥
 PutAll (Some old) (Some new) text = new ≡ old ++ text
 
--- a put appends its piece, or a front of it where it failed
+-- a put appends its piece, or a front of it if it failed
 abbrev pub Puts : {T E : Type 0} → Option (List ℕ) → Option (List ℕ) → Result T E → List ℕ → Type 0
 Puts old new (Ok done) piece = PutAll old new piece
 Puts old new (Err e) piece = PutFront old new piece

@@ -4,7 +4,7 @@ use Rattle.std.proofs.Common.{arith}
 use Rattle.std.proofs.lemmas.List.{length-take-le, take-append-drop}
 use Rattle.apex_base.specs.declared.padded.ShortText.TheInside.{Inside}
 
--- the text stands in front, and zeros behind it
+-- the text comes first, and zeros after it
 pub record IsPadded (room : ℕ) (a : Inside room) : Type 0 where
   pub filled : length a.bytes ≡ room
   pub within : a.len ≤ room

@@ -1,4 +1,4 @@
--- The ranges of numbers, as the types of numbers keep them: docs/formats/script.md, "Words".
+-- The ranges of numbers, which their types keep: docs/formats/script.md, "Words".
 use Rattle.std.specs.Prelude.{ℕ, ◌≤◌}
 
 abbrev pub IsVersion : ℕ → Type 0

@@ -1,11 +1,11 @@
-//! Values in memory of their own, so that what holds them stays small.
+//! Values in memory of their own, so that the types that hold them stay small.
 ghost use Rattle.std.specs.Prelude.{◌≡◌, IfOk};
 
 use std::alloc::{AllocError, Global};
 use std::fmt;
 use std::marker::Model;
 
-/// A large value that takes 8 bytes where it stands. A contract sees the value.
+/// A large value, held by a pointer of 8 bytes. A contract sees the value.
 #[derive(Drop)]
 pub struct Boxed<T> {
     inner: Box<T>,
@@ -20,7 +20,7 @@ impl<T> Model for Boxed<T> {
 }
 
 impl<T: Drop> Boxed<T> {
-    /// Moves the value to memory of its own.
+    /// Moves the value to memory of its own. Fails only if memory runs out.
     pub fn new(alloc: Global, value: T) -> Result<Self, AllocError>
         ensures { IfOk result (λ boxed. boxed ≡ value) }
     {

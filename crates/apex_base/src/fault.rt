@@ -2,20 +2,20 @@
 use crate::FilePath;
 use std::fmt;
 
-/// The faults of a module, in the order in which they are looked for. Lines are counted from 1.
+/// The faults of a module, in the order of the checks. Lines are counted from 1.
 #[derive(Clone, Copy, Debug, PartialEq, Eq)]
 pub enum ModuleFault {
     /// There is no file `apex_manifest.json`.
     NoManifest,
-    /// It is no JSON, or no object.
+    /// It isn't JSON, or the JSON isn't an object.
     NotJson,
     /// It has no member `name`.
     NoName,
-    /// That member is no string that is a name.
+    /// That member isn't a string, or the string isn't a name.
     BadName,
     /// It has no member `version`.
     NoVersion,
-    /// That member is no number of digits alone that is a version.
+    /// That member isn't a number written with digits alone, or isn't in the range of versions.
     BadVersion,
     /// There is no file `apex_digests`.
     NoListing,
@@ -23,7 +23,7 @@ pub enum ModuleFault {
     BadListing {
         line: u32,
     },
-    /// The least other file that the listing lacks.
+    /// The least file, other than the listing, that the listing lacks.
     Unlisted {
         path: FilePath,
     },

@@ -1,9 +1,10 @@
-//! The plain types of the module manager, and the traits of what stands outside it.
+//! The plain types of the module manager, and the traits of the world outside it.
 #![tactic(auto)]
 
 mod boxed;
 mod cut;
 mod fault;
+mod laws;
 mod listed;
 mod memory;
 mod module;
@@ -18,10 +19,12 @@ mod shared;
 #[cfg(test)]
 mod tests;
 mod text;
+mod why;
 
 pub use boxed::Boxed;
-pub use cut::{cut_first, place_in_word, place_of};
+pub use cut::{cut_first, position_in_word, position_of};
 pub use fault::ModuleFault;
+pub use laws::{no_bytes_spell_two_records, no_two_things_have_one_key, reading_undoes_spelling};
 pub use listed::Listed;
 pub use memory::{MemSink, MemSource};
 pub use module::{Module, PutWhy};
@@ -36,3 +39,4 @@ pub use records::{
 pub use refusal::Refusal;
 pub use shared::Shared;
 pub use text::{Name, Print};
+pub use why::Why;

@@ -1,10 +1,10 @@
-//! A source and a sink in memory, whose calls of given numbers fail. They tell what they have.
+//! A source and a sink in memory, of which calls with given numbers fail. Contracts know what they hold.
 ghost use Rattle.std.specs.Prelude.{◌≡◌, ◌≤◌, [], Some, vec_len, IfOk};
 
 use crate::{Failed, Sink, Source};
 use std::alloc::{AllocError, Global};
 
-/// Bytes to read, and the numbers of the reads, from 1, that fail and do nothing.
+/// Bytes to read, and the numbers of the reads, counted from 1, that fail and do nothing.
 #[derive(Drop)]
 pub struct MemSource {
     bytes: Vec<u8>,
@@ -18,7 +18,7 @@ pub struct MemSource {
 impl MemSource {
     ghost use Rattle.apex_base.specs.Memory.{source_left, source_faults};
 
-    /// A source of these bytes.
+    /// A source of these bytes. The reads with the numbers `fails`, counted from 1, fail.
     pub fn of(bytes: Vec<u8>, fails: Vec<u64>) -> Self
         ensures bytes { source_left result ≡ bytes.items }
         ensures faults { source_faults result ≡ 0 }
@@ -54,8 +54,8 @@ impl Source for MemSource {
     }
 }
 
-/// Holds what was put, with room for a number of bytes that was made at the start. A put whose number, from 1,
-/// is among those that fail does nothing, and neither does one beyond the room that finds no memory.
+/// Holds what was put. Room for a number of bytes is made at the start. A put does nothing, and fails, if its number,
+/// counted from 1, is among those that fail, or if it goes beyond the room and finds no memory.
 #[derive(Drop)]
 pub struct MemSink {
     bytes: Vec<u8>,
@@ -67,7 +67,7 @@ pub struct MemSink {
 impl MemSink {
     ghost use Rattle.apex_base.specs.Memory.{sink_held, sink_faults};
 
-    /// An empty sink with room for so many bytes.
+    /// An empty sink with room for `room` bytes. Fails only if memory runs out.
     pub fn with_room(alloc: Global, room: usize, fails: Vec<u64>) -> Result<Self, AllocError>
         ensures empty { IfOk result (λ sink. sink_held sink ≡ []) }
         ensures faults { IfOk result (λ sink. sink_faults sink ≡ 0) }

@@ -22,6 +22,7 @@ pub enum PutWhy {
     Files,
     /// The content has more than 1048576 bytes.
     Large { len: u64 },
+    /// Memory ran out.
     NoMemory,
 }
 
@@ -83,15 +84,15 @@ impl Module {
         None
     }
 
-    /// Writes a file, or replaces it. `Files` comes exactly where 64 other paths are there, and else `Large`
-    /// exactly where the content has more than 1048576 bytes.
+    /// Writes a file, or replaces it. The error is `Files` if 64 other files are there, otherwise `Large` if the content
+    /// has more than 1048576 bytes, otherwise `NoMemory`. After an error the module is as before.
     pub fn put(&mut self, path: FilePath, bytes: Vec<u8>) -> Result<(), PutWhy>
         ensures put { OnOk result (self.new ≡ fin.insert self.old path bytes.items) }
         ensures fits { IsOk result → put_fault self.old path bytes.items ≡ None }
         ensures refused { IfErr result (λ why. why ≢ NoMemory → put_fault self.old path bytes.items ≡ Some why) }
         ensures unchanged { OnErr result (self.new ≡ self.old) }
     {
-        path.told();
+        path.known();
         if let Some(why) = self.put_fault(&path, &bytes) {
             return Err(why);
         }
@@ -101,7 +102,7 @@ impl Module {
         }
     }
 
-    /// Removes a file. Whether there was one.
+    /// Removes a file, and says whether there was one.
     pub fn remove(&mut self, path: &FilePath) -> bool
         ensures removed { self.new ≡ fin.remove self.old path.now }
         ensures found { result ≡ fin.contains_key self.old path.now }
@@ -109,14 +110,11 @@ impl Module {
         self.files.remove(path).is_some()
     }
 
-    /// The content of a file.
+    /// The content of a file, or None if there is no such file.
     pub fn get(&self, path: &FilePath) -> Option<&[u8]>
         ensures { option_map (λ b. b.now) result ≡ fin.get self.now path.now }
     {
-        match self.files.get(path) {
-            Some(content) => Some(content.as_slice()),
-            None => None,
-        }
+        self.files.get(path).map(|content| content.as_slice())
     }
 
     /// The files, ascending by path.
@@ -127,7 +125,7 @@ impl Module {
         &self.files
     }
 
-    /// The sum of the files' weights: the length of each content, and 256 more.
+    /// The sum of the files' weights: for each, the length of its content in bytes and 256 more.
     pub fn weight(&self) -> u64
         ensures weight { result ≡ module_weight self.now }
         ensures small { result ≤ 67125248 }

@@ -1,10 +1,10 @@
-//! The moves between the states of a session. Which sessions move is decided by the crates above.
+//! The moves between the states of a session. The crates above decide which sessions move.
 ghost use Rattle.std.specs.Prelude.{◌≡◌};
 ghost use Rattle.apex_base.specs.Moves.{moved};
 
 use crate::State;
 
-/// A move of a session: the table of `docs/sessions.md`, "Moves".
+/// A move of a session: the table of `docs/sessions.md`, "Moves". No line makes a `Revert` yet.
 #[derive(Clone, Copy, Debug, PartialEq, Eq)]
 pub enum Move {
     Ready,
@@ -16,11 +16,11 @@ pub enum Move {
     Undo,
 }
 
-/// The state that a move leads to; None exactly where it doesn't begin at this state.
-pub fn moved(state: State, step: Move) -> Option<State>
-    ensures { result ≡ moved state step }
+/// The state that a move leads to, or None if the move can't begin in this state.
+pub fn moved(state: State, by: Move) -> Option<State>
+    ensures { result ≡ moved state by }
 {
-    match (step, state) {
+    match (by, state) {
         (Move::Ready, State::Verified | State::Staged) => Some(State::Staged),
         (Move::Abort, State::Verified | State::Staged) => Some(State::Aborted),
         (Move::Success, State::Activated | State::Success) => Some(State::Success),

@@ -1,7 +1,8 @@
 //! Numbers with a range, and the two scales of a store.
 ghost use Rattle.std.specs.Prelude.{◌≡◌};
 ghost use Rattle.apex_base.specs.Ranges.{IsVersion};
-ghost use Rattle.apex_base.specs.Numbers.{version_of, millis_of, scale_modules, scale_file_weight, scale_data_weight, scale_units, scale_device_len, scale_number, scale_of_number};
+ghost use Rattle.apex_base.specs.Numbers.{version_of, millis_of, scale_modules, scale_file_weight, scale_data_weight};
+ghost use Rattle.apex_base.specs.Numbers.{scale_units, scale_device_len, scale_number, scale_of_number};
 
 use std::marker::Model;
 
@@ -25,7 +26,7 @@ impl Model for Version {
 }
 
 impl Version {
-    /// The version of this number; None exactly where it is out of range.
+    /// The version of this number, or None if it is out of range.
     pub fn new(number: u64) -> Option<Self>
         ensures { result ≡ version_of number }
     {
@@ -72,7 +73,7 @@ impl Millis {
         Millis { number: 0 }
     }
 
-    /// That many milliseconds; None exactly where they are out of range.
+    /// That many milliseconds, or None if they are out of range.
     pub fn new(number: u64) -> Option<Self>
         ensures { result ≡ millis_of number }
     {
@@ -163,7 +164,7 @@ impl Scale {
         }
     }
 
-    /// The scale of a number; None exactly where no scale has it.
+    /// The scale of a number, or None if no scale has it.
     pub fn of_number(n: u8) -> Option<Self>
         ensures { result ≡ scale_of_number n }
     {

@@ -1,4 +1,4 @@
-//! What stands outside the manager: where bytes come from and go to, what mounts, where a test may wait.
+//! The world outside the manager: where bytes come from and go to, what mounts, where a test may wait.
 ghost use Rattle.std.specs.Prelude.{◌≡◌, ◌≤◌, ℕ, List, Bool, Option, length, IfOk};
 ghost use Rattle.apex_base.specs.Causes.{HasCause};
 ghost use Rattle.apex_base.specs.Outside.{Took, Puts};
@@ -12,14 +12,14 @@ pub struct Failed;
 
 /// Where bytes come from.
 pub trait Source {
-    /// The bytes that are left, where the source tells them.
+    /// The bytes that are left, if the source states them.
     ghost left: { Self → Option (List ℕ) };
 
     /// How often a read has failed.
     ghost faults: { Self → ℕ };
 
-    /// Takes the next bytes, as many as it answers, to the front of `into`. 0 bytes of a space that isn't
-    /// empty are the end.
+    /// Reads the next bytes to the front of `into`, and answers how many. 0 means the end, unless `into` is
+    /// empty.
     fn read(&mut self, into: &mut [u8]) -> Result<usize, Failed>
         ensures within { IfOk result (λ n. n ≤ length into.new) }
         ensures taken { Took (left self.old) (left self.new) result into.new }
@@ -28,13 +28,13 @@ pub trait Source {
 
 /// Where bytes go to.
 pub trait Sink {
-    /// The bytes that it holds, where the sink tells them.
+    /// The bytes that it holds, if the sink states them.
     ghost held: { Self → Option (List ℕ) };
 
     /// How often a put has failed.
     ghost faults: { Self → ℕ };
 
-    /// Appends the piece. A put that failed has appended a front of it.
+    /// Appends the piece. A put that failed has appended a front of it, or nothing.
     fn put(&mut self, piece: &[u8]) -> Result<(), Failed>
         ensures put { Puts (held self.old) (held self.new) result piece.now }
         ensures cause { HasCause (faults self.old) (faults self.new) result };
@@ -56,7 +56,7 @@ pub trait Gate: Sync {
     fn at(&self, who: u32, step: u32);
 }
 
-/// The gate that holds nobody up.
+/// A gate that holds nobody up.
 #[derive(Clone, Copy)]
 pub struct OpenGate;
 

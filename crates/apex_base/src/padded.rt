@@ -1,9 +1,9 @@
-//! Short texts whose bytes stand in the value, so that a copy takes no memory.
+//! Short texts whose bytes are in the value itself, so that a copy takes no memory.
 ghost use Rattle.std.specs.Prelude.{◌≡◌, ◌≤◌, length};
 
 use std::marker::Model;
 
-/// At most `N` bytes, with zeros behind them.
+/// At most `N` bytes, followed by zeros.
 #[derive(Clone, Copy)]
 pub struct ShortText<const N: usize> {
     bytes: [u8; N],

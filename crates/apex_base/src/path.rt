@@ -1,9 +1,10 @@
-//! Paths of files in a module: `docs/formats/module.md`. Their bytes stand in the value.
+//! Paths of files in a module: `docs/formats/module.md`. Their bytes are in the value itself.
 ghost use Rattle.std.specs.Prelude.{◌≡◌, ◌≤◌, ◌==◌, codes, length, IsTrue, nat_eq, refl};
 ghost use Rattle.std.specs.List.{list_all, slice_split};
 ghost use Rattle.std.specs.Ordering.{nat_cmp, as_partial_cmp};
 ghost use Rattle.std.specs.Cmp;
-ghost use Rattle.std.specs.Cmp.Lexicographic.{slice_cmp, pointwise, nat_list_eq_equiv, nat_list_cmp_total, texts_ties, texts_po};
+ghost use Rattle.std.specs.Cmp.Lexicographic.{slice_cmp, pointwise, nat_list_eq_equiv, nat_list_cmp_total, texts_ties};
+ghost use Rattle.std.specs.Cmp.Lexicographic.{texts_po};
 ghost use Rattle.apex_base.specs.Text.{is_path, is_segment, path_of};
 
 use crate::cut::cut_first_in_word;
@@ -36,47 +37,8 @@ impl Model for FilePath {
     ghost inverse = { λ bytes. record { text = bytes } };
 }
 
-fn is_segment(bytes: &[u8]) -> bool
-    ensures { result ≡ is_segment bytes.now }
-{
-    if bytes.is_empty() {
-        return false;
-    }
-    if bytes == b".".as_slice() {
-        return false;
-    }
-    if bytes == b"..".as_slice() {
-        return false;
-    }
-    all_print_bytes(bytes)
-}
-
-fn all_segments(bytes: &[u8]) -> bool
-    ensures { result ≡ list_all is_segment (slice_split (λ b. b == 47) bytes.now) }
-{
-    let mut rest = bytes;
-    while let Some((segment, behind)) = cut_first_in_word(rest, b'/') {
-        if !is_segment(segment) {
-            return false;
-        }
-        rest = behind;
-    }
-    is_segment(rest)
-}
-
-#[tactic(auto, unfolding(crate::specs::Text::is_path))]
-fn is_path(bytes: &[u8]) -> bool
-    ensures value { result ≡ is_path bytes.now }
-    ensures short { IsTrue result → length bytes.now ≤ 128 }
-{
-    if bytes.len() > CAPACITY {
-        return false;
-    }
-    all_segments(bytes)
-}
-
 impl FilePath {
-    /// The path that the bytes are; None exactly where they are none.
+    /// The path that the bytes spell, or None if they aren't a path.
     pub fn read(bytes: &[u8]) -> Option<Self>
         ensures { result ≡ path_of bytes.now }
     {
@@ -89,7 +51,7 @@ impl FilePath {
         }
     }
 
-    /// Where a module's manifest stands.
+    /// The path of a module's manifest.
     pub fn manifest() -> Self
         ensures { result ≡ codes "apex_manifest.json" }
     {
@@ -98,7 +60,7 @@ impl FilePath {
         }
     }
 
-    /// Where a module's listing stands.
+    /// The path of a module's listing.
     pub fn listing() -> Self
         ensures { result ≡ codes "apex_digests" }
     {
@@ -107,7 +69,7 @@ impl FilePath {
         }
     }
 
-    /// Where a module's public key stands.
+    /// The path of a module's public key.
     pub fn key() -> Self
         ensures { result ≡ codes "apex_pubkey" }
     {
@@ -116,8 +78,8 @@ impl FilePath {
         }
     }
 
-    /// Tells a proof that the bytes are a path. It does nothing.
-    pub(crate) fn told(&self)
+    /// States for proofs that the bytes are a path. It does nothing.
+    pub(crate) fn known(&self)
         ensures { IsTrue (is_path self.now) }
     {
         let _ = &self.text;
@@ -183,4 +145,43 @@ impl fmt::Debug for FilePath {
     fn fmt<W: fmt::Write>(&self, f: &mut fmt::Formatter<W>) -> fmt::Result {
         fmt::Display::fmt(self, f)
     }
+}
+
+#[tactic(auto, unfolding(crate::specs::Text::is_path))]
+fn is_path(bytes: &[u8]) -> bool
+    ensures value { result ≡ is_path bytes.now }
+    ensures short { IsTrue result → length bytes.now ≤ 128 }
+{
+    if bytes.len() > CAPACITY {
+        return false;
+    }
+    all_segments(bytes)
+}
+
+fn all_segments(bytes: &[u8]) -> bool
+    ensures { result ≡ list_all is_segment (slice_split (λ b. b == 47) bytes.now) }
+{
+    let mut rest = bytes;
+    while let Some((segment, after)) = cut_first_in_word(rest, b'/') {
+        if !is_segment(segment) {
+            return false;
+        }
+        rest = after;
+    }
+    is_segment(rest)
+}
+
+fn is_segment(bytes: &[u8]) -> bool
+    ensures { result ≡ is_segment bytes.now }
+{
+    if bytes.is_empty() {
+        return false;
+    }
+    if bytes == b".".as_slice() {
+        return false;
+    }
+    if bytes == b"..".as_slice() {
+        return false;
+    }
+    all_print_bytes(bytes)
 }

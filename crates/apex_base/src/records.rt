@@ -1,7 +1,7 @@
-//! Modules, sessions and their parts, and what becomes of them. Plain data: which values go together is
-//! decided by the crates above.
+//! Modules, sessions and their parts, and what becomes of them. Plain data: the crates above decide which values go
+//! together.
 ghost use Rattle.std.specs.Prelude.{◌≡◌};
-ghost use Rattle.apex_base.specs.Held.{is_unfinished, is_standing, is_undoable};
+ghost use Rattle.apex_base.specs.Held.{is_unfinished, is_standing, is_undoable, is_success, is_available};
 ghost use Rattle.apex_base.specs.Moves.{state_number};
 
 use crate::listed::Listed;
@@ -37,47 +37,42 @@ impl State {
         }
     }
 
-    /// Whether a session in it may still change what a name holds.
+    /// Whether a session in this state may still change what a name holds.
     pub fn is_unfinished(self) -> bool
         ensures { result ≡ is_unfinished self }
     {
-        match self {
-            State::Verified | State::Staged | State::Activated | State::RevertInProgress => true,
-            State::ActivationFailed | State::Success | State::Reverted | State::Aborted => false,
-        }
+        matches!(
+            self,
+            State::Verified | State::Staged | State::Activated | State::RevertInProgress
+        )
     }
 
-    /// Whether the modules of a session in it stand.
+    /// Whether the modules of a session in this state count.
     pub fn is_standing(self) -> bool
         ensures { result ≡ is_standing self }
     {
-        match self {
-            State::Activated | State::Success | State::RevertInProgress => true,
-            State::Verified
-            | State::Staged
-            | State::ActivationFailed
-            | State::Reverted
-            | State::Aborted => false,
-        }
+        matches!(
+            self,
+            State::Activated | State::Success | State::RevertInProgress
+        )
     }
 
-    /// Whether a session in it can still be undone.
+    /// Whether a session in this state can still be undone.
     pub fn is_undoable(self) -> bool
         ensures { result ≡ is_undoable self }
     {
-        match self {
-            State::Activated | State::RevertInProgress => true,
-            State::Verified
-            | State::Staged
-            | State::ActivationFailed
-            | State::Success
-            | State::Reverted
-            | State::Aborted => false,
-        }
+        matches!(self, State::Activated | State::RevertInProgress)
+    }
+
+    /// Whether a session in this state was marked successful.
+    pub fn is_success(self) -> bool
+        ensures { result ≡ is_success self }
+    {
+        matches!(self, State::Success)
     }
 }
 
-/// A rollback's state (AOSP's `RollbackManagerServiceImpl`).
+/// A rollback's state (AOSP's `RollbackManagerServiceImpl`). No line makes a rollback yet.
 #[derive(Clone, Copy, Debug, PartialEq, Eq)]
 pub enum RollbackState {
     Enabling,
@@ -86,7 +81,16 @@ pub enum RollbackState {
     Deleted,
 }
 
-/// What a session is for.
+impl RollbackState {
+    /// Whether there is a rollback and it is AVAILABLE.
+    pub fn is_available(rollback: Option<Self>) -> bool
+        ensures { result ≡ is_available rollback }
+    {
+        matches!(rollback, Some(RollbackState::Available))
+    }
+}
+
+/// What a session is for. No line makes a session that isn't `Plain` yet.
 #[derive(Clone, Copy, PartialEq, Eq)]
 pub enum Kind {
     Plain,
@@ -94,7 +98,7 @@ pub enum Kind {
     RollbackOf(SessionId),
 }
 
-/// Where a module stands: on the data partition, or preinstalled.
+/// Where a module is: on the data partition, or preinstalled.
 #[derive(Clone, Copy, Debug, PartialEq, Eq)]
 pub enum Place {
     Data,
@@ -112,7 +116,7 @@ pub enum Target {
     },
 }
 
-/// Why a part doesn't work, the first case that holds.
+/// Why a part doesn't work: the first case that holds.
 #[derive(Clone, Copy, Debug, PartialEq, Eq)]
 pub enum Case {
     NotInImage,
@@ -122,7 +126,7 @@ pub enum Case {
     NoMount,
 }
 
-/// Why a session ended in ACTIVATION_FAILED or REVERTED.
+/// Why a session ended in ACTIVATION_FAILED or REVERTED. Only `Part` can come up yet.
 #[derive(Clone, Copy)]
 pub enum Cause {
     Reverted,
@@ -148,7 +152,7 @@ pub type PartList = Listed<Part>;
 /// Bytes of any content, seen as a list.
 pub type Bytes = Listed<u8>;
 
-/// What a boot chose for a name: a version and its place, or None where the name is missing.
+/// What a boot chose for a name: a version and its place, or None if the name is missing.
 #[derive(Clone, Copy)]
 pub struct Pick {
     pub name: Name,
@@ -171,7 +175,7 @@ pub struct Record {
     pub moment: Millis,
 }
 
-/// How much the user would notice if an observer acted.
+/// How much the user would notice if an observer acted. No line makes an observer yet.
 #[derive(Clone, Copy, Debug, PartialEq, Eq, PartialOrd, Ord)]
 pub enum Level {
     None,
@@ -180,7 +184,7 @@ pub enum Level {
     High,
 }
 
-/// Why a name's health is reported (AOSP's `PackageWatchdog`).
+/// Why a name's health is reported (AOSP's `PackageWatchdog`). No line makes a report yet.
 #[derive(Clone, Copy, Debug, PartialEq, Eq)]
 pub enum Reason {
     Unknown,

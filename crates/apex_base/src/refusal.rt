@@ -1,7 +1,8 @@
 //! Why a call is refused, with the values that a person would ask for next.
 use crate::{Boxed, ModuleFault, Name, RollbackState, SessionId, State, Version};
 
-/// The causes, in the order in which a call's checks name them. A refusal changes nothing.
+/// The causes, in the order in which a call's checks name them. A refusal changes nothing. No line leads to `Parts`,
+/// `TwiceNamed` or one of those after `BadState` yet.
 #[derive(Drop)]
 pub enum Refusal {
     IdRange {
@@ -13,7 +14,7 @@ pub enum Refusal {
     Parts {
         count: u32,
     },
-    /// `part` is counted from 1. The fault stands in memory of its own, since it may hold a path and two digests.
+    /// `part` is counted from 1. The fault is boxed, since it may hold a path and two digests.
     Module {
         part: u32,
         fault: Boxed<ModuleFault>,

@@ -1,4 +1,4 @@
-//! Values that several owners hold at once, so that none of them copies what is large.
+//! Values with several owners, so that nobody copies what is large.
 ghost use Rattle.std.specs.Prelude.{◌≡◌, IfOk, IfErr};
 
 use std::alloc::{AllocError, Global};
@@ -22,7 +22,7 @@ impl<T> Model for Shared<T> {
 }
 
 impl<T: Drop> Shared<T> {
-    /// Moves the value to where it can be shared.
+    /// Moves the value to where it can be shared. Fails only if memory runs out.
     pub fn new(alloc: Global, value: T) -> Result<Self, AllocError>
         ensures { IfOk result (λ shared. shared ≡ value) }
     {
@@ -30,7 +30,7 @@ impl<T: Drop> Shared<T> {
         Ok(Shared { inner })
     }
 
-    /// One owner more of the same value. Nothing is copied.
+    /// One more owner of the same value. Nothing is copied. Fails only if memory runs out.
     pub fn share(&self) -> Result<Self, AllocError>
         ensures { IfOk result (λ shared. shared ≡ self.now) }
     {
@@ -38,7 +38,7 @@ impl<T: Drop> Shared<T> {
         Ok(Shared { inner })
     }
 
-    /// The value itself where this is its only owner, and else the same owner again.
+    /// The value itself if this is its only owner, and otherwise the same owner again.
     pub fn into_inner(self) -> Result<T, Self>
         ensures value { IfOk result (λ value. value ≡ self) }
         ensures kept { IfErr result (λ shared. shared ≡ self) }

@@ -1,10 +1,11 @@
-//! Names and fingerprints. Their bytes stand in the value, so that a copy takes no memory.
+//! Names and fingerprints. Their bytes are in the value itself, so that a copy takes no memory.
 ghost use Rattle.std.specs.Prelude.{◌≡◌, ◌≤◌, length, IsTrue, nat_eq, refl};
 ghost use Rattle.std.specs.List.{list_all};
 ghost use Rattle.std.specs.Ordering.{nat_cmp, as_partial_cmp};
 ghost use Rattle.std.specs.Cmp;
 ghost use Rattle.std.specs.Str.{bytes_eq};
-ghost use Rattle.std.specs.Cmp.Lexicographic.{slice_cmp, pointwise, nat_list_eq_equiv, nat_list_cmp_total, texts_ties, texts_po};
+ghost use Rattle.std.specs.Cmp.Lexicographic.{slice_cmp, pointwise, nat_list_eq_equiv, nat_list_cmp_total, texts_ties};
+ghost use Rattle.std.specs.Cmp.Lexicographic.{texts_po};
 ghost use Rattle.apex_base.specs.Text.{is_name, is_name_byte, is_print, is_print_byte, name_of, print_of};
 
 use crate::padded::ShortText;
@@ -12,68 +13,6 @@ use std::cmp::Ordering;
 use std::marker::Model;
 
 const CAPACITY: usize = 64;
-
-fn is_name_byte(b: u8) -> bool
-    ensures { result ≡ is_name_byte b }
-{
-    b.is_ascii_uppercase() | b.is_ascii_lowercase() | b.is_ascii_digit() | (b == b'_') | (b == b'.')
-}
-
-fn is_print_byte(b: u8) -> bool
-    ensures { result ≡ is_print_byte b }
-{
-    b.is_ascii_graphic()
-}
-
-/// Whether all bytes may stand in a name. The loop has no early exit, so that it looks at many bytes at a time.
-fn all_name_bytes(bytes: &[u8]) -> bool
-    ensures { result ≡ list_all is_name_byte bytes.now }
-{
-    let mut all = true;
-    for b in bytes {
-        all = all & is_name_byte(*b);
-    }
-    all
-}
-
-/// Whether all bytes are printable ones that are no space.
-pub fn all_print_bytes(bytes: &[u8]) -> bool
-    ensures { result ≡ list_all is_print_byte bytes.now }
-{
-    let mut all = true;
-    for b in bytes {
-        all = all & is_print_byte(*b);
-    }
-    all
-}
-
-#[tactic(auto, unfolding(crate::specs::Text::is_short_text))]
-fn is_name(bytes: &[u8]) -> bool
-    ensures value { result ≡ is_name bytes.now }
-    ensures short { IsTrue result → length bytes.now ≤ 64 }
-{
-    if bytes.is_empty() {
-        return false;
-    }
-    if bytes.len() > CAPACITY {
-        return false;
-    }
-    all_name_bytes(bytes)
-}
-
-#[tactic(auto, unfolding(crate::specs::Text::is_short_text))]
-fn is_print(bytes: &[u8]) -> bool
-    ensures value { result ≡ is_print bytes.now }
-    ensures short { IsTrue result → length bytes.now ≤ 64 }
-{
-    if bytes.is_empty() {
-        return false;
-    }
-    if bytes.len() > CAPACITY {
-        return false;
-    }
-    all_print_bytes(bytes)
-}
 
 /// A name of a module, an observer, a data key or a label: 1 to 64 bytes of `A-Z a-z 0-9 _ .`. Names are
 /// ordered by their bytes.
@@ -96,7 +35,7 @@ impl Model for Name {
 }
 
 impl Name {
-    /// The name that the bytes are; None exactly where they are none.
+    /// The name that the bytes spell, or None if they aren't a name.
     pub fn read(bytes: &[u8]) -> Option<Self>
         ensures { result ≡ name_of bytes.now }
     {
@@ -183,7 +122,7 @@ impl Model for Print {
 }
 
 impl Print {
-    /// The fingerprint that the bytes are; None exactly where they are none.
+    /// The fingerprint that the bytes spell, or None if they aren't one.
     pub fn read(bytes: &[u8]) -> Option<Self>
         ensures { result ≡ print_of bytes.now }
     {
@@ -210,4 +149,66 @@ impl Print {
     {
         self.as_bytes() == other.as_bytes()
     }
+}
+
+#[tactic(auto, unfolding(crate::specs::Text::is_short_text))]
+fn is_print(bytes: &[u8]) -> bool
+    ensures value { result ≡ is_print bytes.now }
+    ensures short { IsTrue result → length bytes.now ≤ 64 }
+{
+    if bytes.is_empty() {
+        return false;
+    }
+    if bytes.len() > CAPACITY {
+        return false;
+    }
+    all_print_bytes(bytes)
+}
+
+#[tactic(auto, unfolding(crate::specs::Text::is_short_text))]
+fn is_name(bytes: &[u8]) -> bool
+    ensures value { result ≡ is_name bytes.now }
+    ensures short { IsTrue result → length bytes.now ≤ 64 }
+{
+    if bytes.is_empty() {
+        return false;
+    }
+    if bytes.len() > CAPACITY {
+        return false;
+    }
+    all_name_bytes(bytes)
+}
+
+/// Whether all bytes are printable and none is a space.
+pub(crate) fn all_print_bytes(bytes: &[u8]) -> bool
+    ensures { result ≡ list_all is_print_byte bytes.now }
+{
+    let mut all = true;
+    for b in bytes {
+        all = all & is_print_byte(*b);
+    }
+    all
+}
+
+/// Whether all bytes may stand in a name. The loop has no early exit, so that it looks at many bytes at a time.
+fn all_name_bytes(bytes: &[u8]) -> bool
+    ensures { result ≡ list_all is_name_byte bytes.now }
+{
+    let mut all = true;
+    for b in bytes {
+        all = all & is_name_byte(*b);
+    }
+    all
+}
+
+fn is_print_byte(b: u8) -> bool
+    ensures { result ≡ is_print_byte b }
+{
+    b.is_ascii_graphic()
+}
+
+fn is_name_byte(b: u8) -> bool
+    ensures { result ≡ is_name_byte b }
+{
+    b.is_ascii_uppercase() | b.is_ascii_lowercase() | b.is_ascii_digit() | (b == b'_') | (b == b'.')
 }

@@ -15,7 +15,8 @@ keeps [] v c had = absurd had
 keeps (p ∷ past) v c (inl here) = inl here
 keeps (p ∷ past) v c (inr there) = inr (keeps past v c there)
 
-adds : (past : List Content) (v : Content) (c : List ℕ) → MightHaveLeft (past ++ v ∷ []) c → MightHaveLeft past c ⊎ MayLeave v c
+adds : (past : List Content) (v : Content) (c : List ℕ) → MightHaveLeft (past ++ v ∷ []) c → MightHaveLeft past c
+    ⊎ MayLeave v c
 adds [] v c (inl here) = inr here
 adds [] v c (inr none) = absurd none
 adds (p ∷ past) v c (inl here) = inl (inl here)
@@ -25,7 +26,8 @@ newest : (past : List Content) (v : Content) (c : List ℕ) → MayLeave v c →
 newest [] v c is = inl is
 newest (p ∷ past) v c is = inr (newest past v c is)
 
-drop_push : (t : ℕ) (past : List Content) (v : Content) → t ≤ length past → drop t (past ++ v ∷ []) ≡ drop t past ++ v ∷ []
+drop_push : (t : ℕ) (past : List Content) (v : Content) → t ≤ length past
+    → drop t (past ++ v ∷ []) ≡ drop t past ++ v ∷ []
 drop_push zero past v le = refl
 drop_push (suc t) [] v le = absurd (omega arith)
 drop_push (suc t) (p ∷ past) v le = drop_push t past v (omega arith)
@@ -41,17 +43,20 @@ elapses : (past later : List Content) (old new : Content) → later ≡ past ++ 
     → Elapses (length past) (length later) (Left old past) (Left new later) (MayLeave new)
 elapses past later old new is = record {
   later = omega (arith, ap length is, length-append past (old ∷ []));
-  nothing_else = λ t c le left. ⊎_elim (λ now. inr now) (λ had. inl (was t c (adds (drop t past) old c (along t c le had)))) left;
+  nothing_else =
+      λ t c le left. ⊎_elim (λ now. inr now) (λ had. inl (was t c (adds (drop t past) old c (along t c le had)))) left;
   keeps = λ t c le left. inr (back t c le (⊎_elim (newest (drop t past) old c) (keeps (drop t past) old c) left));
 }
   where
     is_one_more : (t : ℕ) → t ≤ length past → drop t later ≡ drop t past ++ old ∷ []
     is_one_more t le = ap (λ (l : List Content). drop t l) is ∙ drop_push t past old le
 
-    along : (t : ℕ) (c : List ℕ) → t ≤ length past → MightHaveLeft (drop t later) c → MightHaveLeft (drop t past ++ old ∷ []) c
+    along : (t : ℕ) (c : List ℕ) → t ≤ length past → MightHaveLeft (drop t later) c
+        → MightHaveLeft (drop t past ++ old ∷ []) c
     along t c le = subst (λ (l : List Content). MightHaveLeft l c) (is_one_more t le)
 
-    back : (t : ℕ) (c : List ℕ) → t ≤ length past → MightHaveLeft (drop t past ++ old ∷ []) c → MightHaveLeft (drop t later) c
+    back : (t : ℕ) (c : List ℕ) → t ≤ length past → MightHaveLeft (drop t past ++ old ∷ []) c
+        → MightHaveLeft (drop t later) c
     back t c le = subst (λ (l : List Content). MightHaveLeft l c) (sym (is_one_more t le))
 
     was : (t : ℕ) (c : List ℕ) → MightHaveLeft (drop t past) c ⊎ MayLeave old c → Left old past t c
@@ -62,18 +67,24 @@ elapses past later old new is = record {
 joined : (past later : List (Snapshot Content)) (s : Snapshot Content) (old : Content) → later ≡ past ++ s ∷ []
     → s.value ≡ old → told later ≡ told past ++ old ∷ []
 joined past later s old is value =
-    ap told is ∙ map-append (λ (p : Snapshot Content). p.value) past (s ∷ []) ∙ ap (λ (v : Content). told past ++ v ∷ []) value
+    ap told is ∙ map-append (λ (p : Snapshot Content). p.value) past (s ∷ [])
+    ∙ ap (λ (v : Content). told past ++ v ∷ []) value
 
 -- a write that does nothing
-no_write : (content : Content) (at n : ℕ) → IsSound content → at + n ≤ length content.bytes.items → Follows (Torn at n) (MayLeave content) (MayLeave content)
+no_write : (content : Content) (at n : ℕ) → IsSound content → at + n ≤ length content.bytes.items
+    → Follows (Torn at n) (MayLeave content) (MayLeave content)
 no_write content at n sound fits c left = (c, left, torn_self at n c (omega (arith, left.0)))
 
-after_write : (old new : Content) (at : ℕ) (b : List ℕ) → IsSound old → at + length b ≤ length old.bytes.items → new.bytes.items ≡ written at b old.bytes.items → new.synced.items ≡ old.synced.items
-    → new.pending.items ≡ old.pending.items ++ record { at = at; len = length b } ∷ [] → Follows (Torn at (length b)) (MayLeave old) (MayLeave new)
-after_write old new at b sound fits bytes synced pending c (long, inl is) = (old.bytes.items, (refl, inl refl), record { bytes = b; size = refl; is = is ∙ bytes })
+after_write : (old new : Content) (at : ℕ) (b : List ℕ) → IsSound old → at + length b ≤ length old.bytes.items
+    → new.bytes.items ≡ written at b old.bytes.items → new.synced.items ≡ old.synced.items
+    → new.pending.items ≡ old.pending.items ++ record { at = at; len = length b } ∷ []
+    → Follows (Torn at (length b)) (MayLeave old) (MayLeave new)
+after_write old new at b sound fits bytes synced pending c (long, inl is) =
+    (old.bytes.items, (refl, inl refl), record { bytes = b; size = refl; is = is ∙ bytes })
 after_write old new at b sound fits bytes synced pending c (long, inr agrees) =
     let r : Range = record { at = at; len = length b } in
-    let here = subst (λ (l : List ℕ). Agrees l (old.pending.items ++ r ∷ []) c) synced (subst (λ (l : List Range). Agrees new.synced.items l c) pending agrees) in
+    let here = subst (λ (l : List ℕ). Agrees l (old.pending.items ++ r ∷ []) c) synced
+    (subst (λ (l : List Range). Agrees new.synced.items l c) pending agrees) in
     let d = torn_back old.pending.items r old.synced.items c here (omega (arith, sound.agrees.long)) in
     (d.0, (d.1.long ∙ sym sound.agrees.long, inr d.1), d.2)
 
@@ -83,9 +94,11 @@ pub not_torn : (content : Content) (at n : ℕ) → at + n ≤ length content.by
 not_torn content at n fits = (content.bytes.items, refl, torn_self at n content.bytes.items fits)
 
 -- nothing is pending
-pub settled : (content : Content) → content.pending.items ≡ [] → content.synced.items ≡ content.bytes.items → IsSettled (MayLeave content) (Some content.bytes.items)
+pub settled : (content : Content) → content.pending.items ≡ [] → content.synced.items ≡ content.bytes.items
+    → IsSettled (MayLeave content) (Some content.bytes.items)
 settled content none same c (long, inl is) = ap (λ (l : List ℕ). Some l) (sym is)
-settled content none same c (long, inr agrees) = ap (λ (l : List ℕ). Some l) (sym same ∙ all_brought c content.synced.items (subst (λ (l : List Range). Agrees content.synced.items l c) none agrees))
+settled content none same c (long, inr agrees) = ap (λ (l : List ℕ). Some l) (sym same
+    ∙ all_brought c content.synced.items (subst (λ (l : List Range). Agrees content.synced.items l c) none agrees))
 
 -- The disk in memory, from its fields to what contracts see.
 module _ (fields disk : Mem) (is : fields ≡ disk) where
@@ -118,6 +131,7 @@ module _ (fields disk : Mem) (is : fields ≡ disk) where
       → fields.past ≡ told past → later ≡ past ++ s ∷ [] → s.value ≡ fields.content
       → Elapses (length disk.past) (length (told later)) (Since disk) (Left new (told later)) (MayLeave new)
   time_passed past later s new has more value =
-      subst (λ (m : Mem). Elapses (length m.past) (length (told later)) (Since m) (Left new (told later)) (MayLeave new)) is
+      subst (λ (m : Mem). Elapses (length m.past) (length (told later)) (Since m) (Left new (told later))
+      (MayLeave new)) is
       (elapses fields.past (told later) fields.content new
       (joined past later s fields.content more value ∙ ap (λ (l : List Content). l ++ fields.content ∷ []) (sym has)))

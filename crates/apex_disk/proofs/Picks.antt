@@ -7,7 +7,9 @@ use Rattle.apex_disk.specs.Pick.{picked}
 use Rattle.apex_disk.specs.declared.content.Range.{Range}
 use Rattle.apex_disk.proofs.Ranges.{covered_left, covered_last, covered_or}
 
-twice : (a b c d : Bool) (n s o : ℕ) → cond a s (cond b (cond a s (cond b n (cond c n (cond d s o)))) (cond c (cond a s (cond b n (cond c n (cond d s o)))) (cond d s o))) ≡ cond a s (cond b n (cond c n (cond d s o)))
+twice : (a b c d : Bool) (n s o : ℕ)
+    → cond a s (cond b (cond a s (cond b n (cond c n (cond d s o))))
+    (cond c (cond a s (cond b n (cond c n (cond d s o)))) (cond d s o))) ≡ cond a s (cond b n (cond c n (cond d s o)))
 twice true b c d n s o = refl
 twice false true c d n s o = refl
 twice false false true d n s o = refl
@@ -29,7 +31,9 @@ covered_cases (r ∷ ranges) k = elim (inside_or r k) [
   | inl here ↦ inl (inl here)
   | inr out ↦ elim (covered_cases ranges k) [
     | inl there ↦ inl (inr there)
-    | inr not ↦ inr (λ covered. ⊎_elim (λ (i : Inside r k). ⊎_elim (λ (low : k < r.at). absurd (omega (arith, low, i.0))) (λ (high : r.at + r.len ≤ k). absurd (omega (arith, high, i.1))) out) not covered)
+    | inr not ↦ inr
+        (λ covered. ⊎_elim (λ (i : Inside r k). ⊎_elim (λ (low : k < r.at). absurd (omega (arith, low, i.0)))
+        (λ (high : r.at + r.len ≤ k). absurd (omega (arith, high, i.1))) out) not covered)
   ]
 ]
 
@@ -38,17 +42,23 @@ pub record Picked (ranges : List Range) (pick : ℕ) (first synced bytes : List 
   pub inside : (k : ℕ) → Covered ranges k → get_or bytes k 0 ≡ picked pick k (get_or first k 0) (get_or synced k 0)
   pub others : (k : ℕ) → (Covered ranges k → ⊥) → get_or bytes k 0 ≡ get_or first k 0
 
-pub pick_more : (ranges : List Range) (r : Range) (pick : ℕ) (first synced before after : List ℕ) → Picked ranges pick first synced before
+pub pick_more : (ranges : List Range) (r : Range) (pick : ℕ) (first synced before after : List ℕ)
+    → Picked ranges pick first synced before
     → ((k : ℕ) → r.at ≤ k → k < r.at + r.len → get_or after k 0 ≡ picked pick k (get_or before k 0) (get_or synced k 0))
-    → ((k : ℕ) → k < r.at → get_or after k 0 ≡ get_or before k 0) → ((k : ℕ) → r.at + r.len ≤ k → get_or after k 0 ≡ get_or before k 0)
+    → ((k : ℕ) → k < r.at → get_or after k 0 ≡ get_or before k 0)
+    → ((k : ℕ) → r.at + r.len ≤ k → get_or after k 0 ≡ get_or before k 0)
     → Picked (ranges ++ r ∷ []) pick first synced after
 pick_more ranges r pick first synced before after was inside below above = record {
   inside = λ k covered. elim (inside_or r k) [
     | inl here ↦ inside k here.0 here.1 ∙ elim (covered_cases ranges k) [
-      | inl there ↦ ap (λ n. picked pick k n (get_or synced k 0)) (was.inside k there) ∙ picked_twice pick k (get_or first k 0) (get_or synced k 0)
+      | inl there ↦ ap (λ n. picked pick k n (get_or synced k 0)) (was.inside k there)
+          ∙ picked_twice pick k (get_or first k 0) (get_or synced k 0)
       | inr not ↦ ap (λ n. picked pick k n (get_or synced k 0)) (was.others k not)
     ]
-    | inr out ↦ stays k out ∙ was.inside k (⊎_elim (λ c. c) (λ (i : Inside r k). ⊎_elim (λ (low : k < r.at). absurd (omega (arith, low, i.0))) (λ (high : r.at + r.len ≤ k). absurd (omega (arith, high, i.1))) out) (covered_or ranges r k covered))
+    | inr out ↦ stays k out
+        ∙ was.inside k
+        (⊎_elim (λ c. c) (λ (i : Inside r k). ⊎_elim (λ (low : k < r.at). absurd (omega (arith, low, i.0)))
+        (λ (high : r.at + r.len ≤ k). absurd (omega (arith, high, i.1))) out) (covered_or ranges r k covered))
   ];
   others = λ k not. elim (inside_or r k) [
     | inl here ↦ absurd (not (covered_last ranges r k here))
@@ -60,10 +70,14 @@ pick_more ranges r pick first synced before after was inside below above = recor
     stays k (inl low) = below k low
     stays k (inr high) = above k high
 
-pub pick_step : (ranges : List Range) (i : ℕ) (r d : Range) (pick : ℕ) (first synced before after : List ℕ) → i < length ranges → r ≡ get_or ranges i d → Picked (take i ranges) pick first synced before
+pub pick_step : (ranges : List Range) (i : ℕ) (r d : Range) (pick : ℕ) (first synced before after : List ℕ)
+    → i < length ranges → r ≡ get_or ranges i d → Picked (take i ranges) pick first synced before
     → ((k : ℕ) → r.at ≤ k → k < r.at + r.len → get_or after k 0 ≡ picked pick k (get_or before k 0) (get_or synced k 0))
-    → ((k : ℕ) → k < r.at → get_or after k 0 ≡ get_or before k 0) → ((k : ℕ) → r.at + r.len ≤ k → get_or after k 0 ≡ get_or before k 0)
+    → ((k : ℕ) → k < r.at → get_or after k 0 ≡ get_or before k 0)
+    → ((k : ℕ) → r.at + r.len ≤ k → get_or after k 0 ≡ get_or before k 0)
     → Picked (take (i + 1) ranges) pick first synced after
 pick_step ranges i r d pick first synced before after lt is was inside below above =
-    let more : take (i + 1) ranges ≡ take i ranges ++ r ∷ [] = take_more ranges i d lt ∙ ap (λ (x : Range). take i ranges ++ x ∷ []) (sym is) in
-    subst (λ (l : List Range). Picked l pick first synced after) (sym more) (pick_more (take i ranges) r pick first synced before after was inside below above)
+    let more : take (i + 1) ranges ≡ take i ranges ++ r ∷ [] = take_more ranges i d lt
+    ∙ ap (λ (x : Range). take i ranges ++ x ∷ []) (sym is) in
+    subst (λ (l : List Range). Picked l pick first synced after) (sym more)
+    (pick_more (take i ranges) r pick first synced before after was inside below above)

@@ -19,7 +19,7 @@ torn_self at n file within =
           ∙ take-append-drop at file);
     }
 
--- what stood there goes, and what stands before and behind stays
+-- what stood there goes, and what stands before and after stays
 pub written_between : (at : ℕ) (xs ys zs bytes file : List ℕ) → file ≡ xs ++ (ys ++ zs) → length xs ≡ at
     → length bytes ≡ length ys → written at bytes file ≡ xs ++ (bytes ++ zs)
 written_between at xs ys zs bytes file is before long =

@@ -12,7 +12,7 @@ pub record Torn (at n : ℕ) (old new : List ℕ) : Type 0 where
   pub size : length bytes ≡ n
   pub is : new ≡ written at bytes old
 
--- what reads give after a write that failed: torn, where they are told
+-- what reads give after a write that failed: torn, where they are known
 abbrev pub TornReads : ℕ → ℕ → Option (List ℕ) → Option (List ℕ) → Type 0
 TornReads at n None new = new ≡ None
 TornReads at n (Some file) new = (now : List ℕ) × (new ≡ Some now) × Torn at n file now
@@ -34,7 +34,7 @@ Follows step old new = (c : List ℕ) → new c → (d : List ℕ) × old d × s
 abbrev pub IsSettled : (List ℕ → Type 0) → Option (List ℕ) → Type 0
 IsSettled images reads = (c : List ℕ) → images c → reads ≡ Some c
 
--- the power came back to one of the images, where reads are told
+-- the power came back to one of the images, where reads are known
 abbrev pub GivesOneImage : (List ℕ → Type 0) → Option (List ℕ) → Option (List ℕ) → Type 0
 GivesOneImage images None new = new ≡ None
 GivesOneImage images (Some file) new = (image : List ℕ) × images image × (new ≡ Some image)

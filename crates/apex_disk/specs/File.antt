@@ -39,6 +39,6 @@ pub record LosesAtFailure (old new : FileState) (result : Result (Unit {0}) Fail
   pub stopped : has_stopped old.arm ≡ true → IsErr result
   pub lost : has_stopped old.arm ≡ false → OnErr result (new.lost ≡ true)
 
--- no reads are told
+-- nothing is known of reads
 pub none_told : (file : List ℕ) → None ≡ Some file → ⊥
 none_told file is = cc

@@ -19,7 +19,7 @@ pub trait Disk {
     ghost use Rattle.apex_base.specs.declared.outside.Failed.{Failed};
     ghost use Rattle.apex_disk.specs.declared.disk.Entry.{Entry};
 
-    /// What reads give, where it is told.
+    /// What reads give, where that is known.
     ghost reads: { Self → Option (List ℕ) };
 
     /// What a crash now may leave.

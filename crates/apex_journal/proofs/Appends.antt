@@ -10,10 +10,12 @@ use Rattle.apex_journal.proofs.Told.{told_from}
 use Rattle.apex_journal.proofs.Gates.{From}
 use Rattle.apex_journal.proofs.Torn.{length-framed, room, longer, append_torn, append_done}
 
-module _ {D : Type 0} (reads : D → Option (List ℕ)) (images : D → List ℕ → Type 0) (moment : D → ℕ) (since : D → ℕ → List ℕ → Type 0)
+module _ {D : Type 0} (reads : D → Option (List ℕ)) (images : D → List ℕ → Type 0) (moment : D → ℕ) (since : D → ℕ
+    → List ℕ → Type 0)
     (length_of : D → ℕ) (only_now : (d : D) (c : List ℕ) → since d (moment d) c → images d c)
     (reads_long : (d : D) (f : List ℕ) → reads d ≡ Some f → length f ≡ length_of d)
-    (j : Seen D) (records : List (List ℕ)) (stands : Stands reads images j records) (d1 : D) (same : reads d1 ≡ reads j.device)
+    (j : Seen D) (records : List (List ℕ)) (stands : Stands reads images j records) (d1 : D) (same : reads d1
+    ≡ reads j.device)
     (fewer : FewerImages (images j.device) (images d1)) where
   -- a call that changes no bytes leaves the records
   pub kept : Elapses (moment j.device) (moment d1) (since j.device) (since d1) (images d1)
@@ -21,7 +23,8 @@ module _ {D : Type 0} (reads : D → Option (List ℕ)) (images : D → List ℕ
   kept time =
       let P : List ℕ → Type 0 = λ c. Opens j.scale c records in
       let here : (c : List ℕ) → images j.device c → P c = λ c left. stands.opens c (stands.settled c left) in
-      goes_on moment since j.device j.device d1 P _ (started moment since j.device P (λ c left. here c (only_now j.device c left))) time
+      goes_on moment since j.device j.device d1 P _
+      (started moment since j.device P (λ c left. here c (only_now j.device c left))) time
       (λ c left. here c (fewer c left))
 
   -- and the journal stands for them
@@ -33,9 +36,12 @@ module _ {D : Type 0} (reads : D → Option (List ℕ)) (images : D → List ℕ
     settled = λ f left. same ∙ stands.settled f (fewer f left);
   }
 
-  module _ (piece : List ℕ) (bytes : List ℕ) (is_framed : bytes ≡ framed piece ++ 0 ∷ []) (gate : ℕ) (here : gate + 1 ≡ 4096 + j.used)
-      (wide : 4096 + 2 * half_len j.scale ≤ length_of j.device) (fits : j.used + (length piece + 5) ≤ half_len j.scale) where
-    fits_behind : (f : List ℕ) (told : reads j.device ≡ Some f) → length (framed piece ++ 0 ∷ []) ≤ length (stands.opens f told).rest
+  module _ (piece : List ℕ) (bytes : List ℕ) (is_framed : bytes ≡ framed piece ++ 0 ∷ []) (gate : ℕ) (here : gate + 1
+      ≡ 4096 + j.used)
+      (wide : 4096 + 2 * half_len j.scale ≤ length_of j.device) (fits : j.used + (length piece + 5) ≤ half_len
+      j.scale) where
+    fits_behind : (f : List ℕ) (told : reads j.device ≡ Some f)
+        → length (framed piece ++ 0 ∷ []) ≤ length (stands.opens f told).rest
     fits_behind f told =
         room j.scale j.used f records (stands.opens f told) (stands.counts f told) (length (framed piece ++ 0 ∷ []))
         (omega (arith, wide, reads_long j.device f told)) (omega (arith, fits, length-framed piece))
@@ -51,17 +57,28 @@ module _ {D : Type 0} (reads : D → Option (List ℕ)) (images : D → List ℕ
         append_torn j.scale j.used r.0 records (stands.opens r.0 told) (stands.counts r.0 told) piece fits gate c here
         (fits_behind r.0 told) (subst (λ (b : List ℕ). MayBeGated gate b r.0 c) is_framed r.2))
 
-    pub append_stands : (d2 : D) (used : ℕ) → used ≡ j.used + (length piece + 5) → reads d2 ≡ option_map (gated gate bytes) (reads d1)
-        → IsSettled (images d2) (reads d2) → Stands reads images (record { device = d2; scale = j.scale; start = j.start; used = used }) (records ++ piece ∷ [])
+    pub append_stands : (d2 : D) (used : ℕ) → used ≡ j.used + (length piece + 5)
+        → reads d2 ≡ option_map (gated gate bytes) (reads d1)
+        → IsSettled (images d2) (reads d2)
+        → Stands reads images (record { device = d2; scale = j.scale; start = j.start; used = used })
+        (records ++ piece ∷ [])
     append_stands d2 used used_is is settled = record {
       opens = λ f told.
           let from = before f told in
-          subst (λ (g : List ℕ). Opens j.scale g (records ++ piece ∷ [])) (sym (from.2 ∙ ap (λ (b : List ℕ). gated gate b from.0) is_framed))
-          (append_done j.scale j.used from.0 records (stands.opens from.0 from.1) (stands.counts from.0 from.1) piece fits gate here (fits_behind from.0 from.1));
+          subst (λ (g : List ℕ). Opens j.scale g (records ++ piece ∷ [])) (sym (from.2
+          ∙ ap (λ (b : List ℕ). gated gate b from.0) is_framed))
+          (append_done j.scale j.used from.0 records (stands.opens from.0 from.1) (stands.counts from.0 from.1) piece
+          fits gate here (fits_behind from.0 from.1));
       starts = λ f told. let from = before f told in stands.starts from.0 from.1;
       counts = λ f told.
           let from = before f told in
-          omega (arith, used_is, stands.counts from.0 from.1, longer j.scale j.used from.0 records (stands.opens from.0 from.1) (stands.counts from.0 from.1) piece fits);
+          omega (
+            arith,
+            used_is,
+            stands.counts from.0 from.1,
+            longer j.scale j.used from.0 records (stands.opens from.0 from.1) (stands.counts from.0 from.1) piece
+                fits,
+          );
       settled = settled;
     }
       where

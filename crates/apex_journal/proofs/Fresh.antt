@@ -16,12 +16,18 @@ use Rattle.apex_journal.specs.Journal.{mark, heading, half_len, Opens, IsBlank, 
 use Rattle.apex_journal.proofs.Gates.{From}
 use Rattle.apex_journal.proofs.Told.{told_from}
 
--- the file behind its first byte
-behind_first : (v d : List ℕ) → 1 + length v ≤ length d → (x : ℕ) × (zs : List ℕ) × (get_or d 0 0 ≡ x) × (written 1 v d ≡ x ∷ (v ++ zs))
+-- the file after its first byte
+behind_first : (v d : List ℕ) → 1 + length v ≤ length d → (x : ℕ) × (zs : List ℕ) × (get_or d 0 0 ≡ x)
+    × (written 1 v d ≡ x ∷ (v ++ zs))
 behind_first v [] fits = absurd (omega arith)
 behind_first v (x ∷ r) fits =
-    let n = length v in
-    (x, drop n r, refl, written_between 1 (x ∷ []) (take n r) (drop n r) v (x ∷ r) (ap (λ (l : List ℕ). x ∷ l) (sym (take-append-drop n r))) refl (sym (length-take-le n r (omega arith))))
+    let n = length v in (
+      x,
+      drop n r,
+      refl,
+      written_between 1 (x ∷ []) (take n r) (drop n r) v (x ∷ r)
+          (ap (λ (l : List ℕ). x ∷ l) (sym (take-append-drop n r))) refl (sym (length-take-le n r (omega arith))),
+    )
 
 pub still_blank : (n : ℕ) (d c : List ℕ) → 1 + n ≤ length d → IsBlank d → Torn 1 n d c → IsBlank c
 still_blank n d c fits blank torn =
@@ -52,7 +58,8 @@ module _ (scale : Scale) (v d : List ℕ) (headed : IsHeader scale v) (fits : 40
         head = 1 ∷ take 4095 v;
         gate = 0;
         rest = zs;
-        is = is ∙ ap (λ (l : List ℕ). 1 ∷ (l ++ zs)) parts ∙ ap (λ (l : List ℕ). 1 ∷ l) (append_assoc (take 4095 v) (0 ∷ []) zs);
+        is = is ∙ ap (λ (l : List ℕ). 1 ∷ (l ++ zs)) parts
+            ∙ ap (λ (l : List ℕ). 1 ∷ l) (append_assoc (take 4095 v) (0 ∷ []) zs);
         starts = omega (arith, length-take-le 4095 v (omega (arith, headed.long)));
         headed = ap (λ (l : List ℕ). 1 ∷ l) (take-take 10 4095 v (omega arith) ∙ headed.named);
         closed = omega arith;
@@ -78,13 +85,24 @@ module _ (scale : Scale) (v d : List ℕ) (headed : IsHeader scale v) (fits : 40
   pub format_done : Opens scale (gated 0 v d) []
   format_done = let f = first_byte 1 in no_records f.0 (gated 0 v d) f.1
 
-pub header_of : (scale : Scale) (zs v : List ℕ) → length zs ≡ 4085 → v ≡ ((drop 1 mark ++ scale_number scale ∷ []) ++ zs) ++ 0 ∷ [] → IsHeader scale v
+pub header_of : (scale : Scale) (zs v : List ℕ) → length zs ≡ 4085
+    → v ≡ ((drop 1 mark ++ scale_number scale ∷ []) ++ zs) ++ 0 ∷ [] → IsHeader scale v
 header_of scale zs v long is = record {
-  long = ap length is ∙ omega (arith, long, length-append (drop 1 (heading scale) ++ zs) (0 ∷ []), length-append (drop 1 (heading scale)) zs);
-  named = ap (λ (l : List ℕ). take 10 l) is ∙ ap (λ (l : List ℕ). take 10 l) (append_assoc (drop 1 (heading scale)) zs (0 ∷ []))
+  long = ap length is ∙ omega (
+    arith,
+    long,
+    length-append (drop 1 (heading scale) ++ zs) (0 ∷ []),
+    length-append (drop 1 (heading scale)) zs,
+  );
+  named = ap (λ (l : List ℕ). take 10 l) is
+      ∙ ap (λ (l : List ℕ). take 10 l) (append_assoc (drop 1 (heading scale)) zs (0 ∷ []))
       ∙ take_at (drop 1 (heading scale)) (zs ++ 0 ∷ []) 10 refl;
   closed = ap (λ (l : List ℕ). get_or l 4095 0) is
-      ∙ get_or_at (drop 1 (heading scale) ++ zs) 0 [] 0 4095 (omega (arith, long, length-append (drop 1 (heading scale)) zs));
+      ∙ get_or_at (drop 1 (heading scale) ++ zs) 0 [] 0 4095 (omega (
+        arith,
+        long,
+        length-append (drop 1 (heading scale)) zs,
+      ));
 }
 
 pub room_for_header : (scale : Scale) → 4097 ≤ scale_device_len scale
@@ -92,15 +110,18 @@ room_for_header Small = lit≤ tt
 room_for_header Standard = lit≤ tt
 
 -- The run of a format, over any disk.
-module _ {D : Type 0} (reads : D → Option (List ℕ)) (images : D → List ℕ → Type 0) (moment : D → ℕ) (since : D → ℕ → List ℕ → Type 0)
+module _ {D : Type 0} (reads : D → Option (List ℕ)) (images : D → List ℕ → Type 0) (moment : D → ℕ) (since : D → ℕ
+    → List ℕ → Type 0)
     (only_now : (d : D) (c : List ℕ) → since d (moment d) c → images d c)
     (old d1 d2 : D) (blank : (c : List ℕ) → images old c → IsBlank c) (fewer : FewerImages (images old) (images d1))
     (wide : (c : List ℕ) → images d1 c → 4097 ≤ length c) (scale : Scale) (v : List ℕ) (headed : IsHeader scale v) where
   pub format_runs : Elapses (moment old) (moment d1) (since old) (since d1) (images d1)
-      → LeavesOnly moment since d1 d2 (From (images d1) (MayBeGated 0 v)) → LeavesOnly moment since old d2 (BlankOrEmpty scale)
+      → LeavesOnly moment since d1 d2 (From (images d1) (MayBeGated 0 v))
+      → LeavesOnly moment since old d2 (BlankOrEmpty scale)
   format_runs time step =
       let P : List ℕ → Type 0 = BlankOrEmpty scale in
-      let before = goes_on moment since old old d1 P _ (started moment since old P (λ c left. inl (blank c (only_now old c left)))) time
+      let before = goes_on moment since old old d1 P _
+      (started moment since old P (λ c left. inl (blank c (only_now old c left)))) time
       (λ c left. inl (blank c (fewer c left))) in
       andthen moment since old d1 d2 P (From (images d1) (MayBeGated 0 v)) P before step (λ c p. p)
       (λ c r. format_torn scale v r.0 headed (wide r.0 r.1) c (blank r.0 (fewer r.0 r.1)) r.2)
@@ -109,4 +130,5 @@ module _ {D : Type 0} (reads : D → Option (List ℕ)) (images : D → List ℕ
       → Told (reads d2) (λ file. Opens scale file [])
   format_opens left is f told =
       let from = told_from (gated 0 v) (reads d1) (reads d2) f is told in
-      subst (λ (g : List ℕ). Opens scale g []) (sym from.2) (format_done scale v from.0 headed (wide from.0 (left from.0 from.1)))
+      subst (λ (g : List ℕ). Opens scale g []) (sym from.2)
+      (format_done scale v from.0 headed (wide from.0 (left from.0 from.1)))

@@ -1,4 +1,4 @@
--- The second step of a change behind a gate.
+-- The second step of a change after a gate.
 use Rattle.std.proofs.Common.{◌≡◌, inr, ◌+◌, ℕ, List, Option, Some, option_map, subst}
 use Rattle.apex_disk.specs.Disk.{written, Torn, IsSettled}
 use Rattle.apex_journal.specs.Gate.{MayBeGated}
@@ -8,7 +8,7 @@ use Rattle.apex_journal.proofs.Told.{told_from}
 abbrev pub From : (List ℕ → Type 0) → (List ℕ → List ℕ → Type 0) → List ℕ → Type 0
 From images step c = (d : List ℕ) × images d × step d c
 
--- a torn gate is torn from a file whose bytes stand behind it
+-- a torn gate is torn from a file whose bytes stand after it
 pub gate_torn : (old mid : Option (List ℕ)) (images now : List ℕ → Type 0) (gate : ℕ) (bytes : List ℕ)
     → mid ≡ option_map (written (gate + 1) bytes) old → IsSettled now mid → ((f : List ℕ) → old ≡ Some f → images f)
     → (c : List ℕ) → From now (Torn gate 1) c → From images (MayBeGated gate bytes) c

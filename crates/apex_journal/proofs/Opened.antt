@@ -43,7 +43,12 @@ module _ (scale : Scale) (len : ℕ) (old mid : Option (List ℕ)) (same : mid �
       → IfOk result (λ read. Told mid (λ file. HalfHolds (half_of scale file) read.records.items read.used))
       → IfOk result (λ read. Told old (λ file. Opens scale file read.records.items))
   store_found long (Ok read) holds = λ file told.
-      opened_file scale read.used file read.records.items (named file told) (omega (arith, two_halves scale, fits, long file told))
+      opened_file scale read.used file read.records.items (named file told) (omega (
+        arith,
+        two_halves scale,
+        fits,
+        long file told,
+      ))
       (holds file (same ∙ told))
   store_found long (Err why) holds = holds
 

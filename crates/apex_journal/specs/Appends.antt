@@ -6,14 +6,14 @@ use Rattle.apex_journal.specs.declared.why.AppendWhy.{AppendWhy}
 use Rattle.apex_journal.specs.declared.why.AppendWhy.TheVariants.{JournalFull, DiskFault, NoMemory}
 use Rattle.apex_journal.specs.Journal.{Opens, WithOrWithout}
 
--- the count of faults rose exactly where the device is named
+-- the count of faults rose if and only if the device is named
 abbrev pub AppendCounts : ℕ → ℕ → Result (Unit {0}) AppendWhy → Type 0
 AppendCounts before now (Ok done) = before ≡ now
 AppendCounts before now (Err DiskFault) = Rose before now
 AppendCounts before now (Err NoMemory) = before ≡ now
 AppendCounts before now (Err (JournalFull used need size)) = before ≡ now
 
--- the journal is full exactly where the half has no room
+-- the journal is full if and only if the half has no room
 abbrev pub IsFullWhere : ℕ → ℕ → ℕ → Result (Unit {0}) AppendWhy → Type 0
 IsFullWhere used need size (Ok done) = used + need ≤ size
 IsFullWhere used need size (Err DiskFault) = used + need ≤ size

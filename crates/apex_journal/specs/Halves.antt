@@ -5,7 +5,7 @@ use Rattle.apex_journal.specs.declared.half.HalfWhy.{HalfWhy}
 use Rattle.apex_journal.specs.declared.half.HalfWhy.TheVariants.{RunsOver, OutOfMemory}
 use Rattle.apex_journal.specs.Records.{HalfHolds, IsDamagedAt}
 
--- the records of the half, or the offset of the gate behind which it is damaged
+-- the records of the half, or the offset of the gate after which it is damaged
 abbrev pub IsRead : List ℕ → Result HalfRead HalfWhy → Type 0
 IsRead half (Ok read) = HalfHolds half read.records.items read.used
 IsRead half (Err (RunsOver at)) = IsDamagedAt half at

@@ -1,4 +1,4 @@
--- What a format writes behind the store's gate: docs/formats/journal.md, "Format".
+-- What a format writes after the store's gate: docs/formats/journal.md, "Format".
 use Rattle.std.specs.Prelude.{◌≡◌, ℕ, List, length, take, drop, get_or}
 use Rattle.apex_base.specs.declared.numbers.Scale.{Scale}
 use Rattle.apex_journal.specs.Journal.{heading}

@@ -19,7 +19,8 @@ pub record IsFirstWrong (head : List ℕ) (offset byte : ℕ) : Type 0 where
 abbrev pub IsHeadWhy : Scale → List ℕ → JournalWhy → Type 0
 IsHeadWhy scale head Blank = IsBlank head
 IsHeadWhy scale head (NotAStore offset byte) = IsWrongAt head offset byte
-IsHeadWhy scale head (ScaleDiffers found wanted) = (wanted ≡ scale_number scale) × (found ≢ wanted) × IsOfScale head found
+IsHeadWhy scale head (ScaleDiffers found wanted) = (wanted ≡ scale_number scale) × (found ≢ wanted)
+    × IsOfScale head found
 IsHeadWhy scale head (Small len need) = ⊥
 IsHeadWhy scale head (Damaged offset) = ⊥
 IsHeadWhy scale head DiskFault = ⊥
@@ -27,7 +28,8 @@ IsHeadWhy scale head NoMemory = ⊥
 
 -- this refusal is shown by the half in use, where the heading is right
 abbrev pub IsHalfWhy : Scale → Option (List ℕ) → JournalWhy → Type 0
-IsHalfWhy scale reads (Damaged offset) = Told reads (λ file. (4096 ≤ offset) × IsDamagedAt (half_of scale file) (offset - 4096))
+IsHalfWhy scale reads (Damaged offset) = Told reads (λ file. (4096 ≤ offset)
+    × IsDamagedAt (half_of scale file) (offset - 4096))
 IsHalfWhy scale reads DiskFault = Unit {0}
 IsHalfWhy scale reads NoMemory = Unit {0}
 IsHalfWhy scale reads (Small len need) = ⊥

@@ -30,7 +30,7 @@ start_of file = 4096
 abbrev pub half_of : Scale → List ℕ → List ℕ
 half_of scale file = take (half_len scale) (drop (start_of file) file)
 
--- the bytes that are told have P
+-- the bytes that reads give, where they are known, have P
 abbrev pub Told : Option (List ℕ) → (List ℕ → Type 0) → Type 0
 Told reads P = (file : List ℕ) → reads ≡ Some file → P file
 
@@ -45,7 +45,8 @@ pub record Opens (scale : Scale) (file : List ℕ) (records : List (List ℕ)) :
   pub closed : gate ≢ 1
   pub within : length (blocks records) + 1 ≤ half_len scale
 
--- what contracts see of a journal: its device, its scale, where the half in use starts, and how many of its bytes are used
+-- what contracts see of a journal: its device, its scale, where the half in use starts, and how many of its bytes are
+-- used
 pub record Seen (D : Type 0) : Type 0 where
   pub device : D
   pub scale : Scale
@@ -61,7 +62,8 @@ pub record IsInside (len : ℕ) (scale : Scale) (start used : ℕ) : Type 0 wher
   pub long : 4096 + 2 * half_len scale ≤ len
 
 -- the journal's device has these records, of what it tells, and a crash leaves them
-pub record Stands {D : Type 0} (reads : D → Option (List ℕ)) (images : D → List ℕ → Type 0) (journal : Seen D) (records : List (List ℕ)) : Type 0 where
+pub record Stands {D : Type 0} (reads : D → Option (List ℕ)) (images : D → List ℕ
+    → Type 0) (journal : Seen D) (records : List (List ℕ)) : Type 0 where
   pub opens : Told (reads journal.device) (λ file. Opens journal.scale file records)
   pub starts : Told (reads journal.device) (λ file. journal.start ≡ start_of file)
   pub counts : Told (reads journal.device) (λ file. journal.used ≡ length (blocks records) + 1)

@@ -1,13 +1,13 @@
--- A half: a row of records, each behind an open gate, and a closed gate behind the last. docs/formats/journal.md.
+-- A half: a row of records, each after an open gate, and a closed gate after the last. docs/formats/journal.md.
 use Rattle.std.specs.Prelude.{◌≡◌, ◌≢◌, ◌⊎◌, ◌≤◌, ◌<◌, ◌+◌, ℕ, List, ◌∷◌, ◌++◌, length, take}
 use Rattle.std.specs.List.{flat_map}
 use Rattle.std.specs.Int.{to_be_bytes, from_be_bytes, w32}
 
--- what stands behind a record's gate: its length in four bytes, and its bytes
+-- what stands after a record's gate: its length in four bytes, and its bytes
 abbrev pub framed : List ℕ → List ℕ
 framed record_bytes = to_be_bytes w32 (length record_bytes) ++ record_bytes
 
--- a record behind an open gate
+-- a record after an open gate
 abbrev pub block : List ℕ → List ℕ
 block record_bytes = 1 ∷ framed record_bytes
 
@@ -22,7 +22,7 @@ pub record HalfHolds (half : List ℕ) (records : List (List ℕ)) (used : ℕ) 
   pub closed : gate ≢ 1
   pub counts : used ≡ length (blocks records) + 1
 
--- the first open gate of a half behind which no whole record and closed gate fit stands at this offset
+-- the first open gate of a half after which no whole record and closed gate fit stands at this offset
 pub record IsDamagedAt (half : List ℕ) (offset : ℕ) : Type 0 where
   pub records : List (List ℕ)
   pub rest : List ℕ

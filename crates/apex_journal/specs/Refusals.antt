@@ -41,7 +41,7 @@ WhyClosed scale len reads (Damaged offset) =
 WhyClosed scale len reads DiskFault = scale_device_len scale ≤ len
 WhyClosed scale len reads NoMemory = scale_device_len scale ≤ len
 
--- the count of faults rose exactly where the device is named
+-- the count of faults rose if and only if the device is named
 abbrev pub CountsFault : ℕ → ℕ → JournalWhy → Type 0
 CountsFault before now (Small found need) = before ≡ now
 CountsFault before now Blank = before ≡ now

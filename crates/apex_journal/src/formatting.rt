@@ -1,4 +1,4 @@
-//! Makes an empty store of a blank device: the header behind its closed gate first, and then the gate.
+//! Makes an empty store of a blank device: the bytes after the closed gate first, and then the gate.
 ghost use Rattle.std.specs.Prelude.{◌≡◌, ◌≤◌, ◌+◌, ◌*◌, [], List, ℕ, length, MatchResult, IfOk, IfErr, OnOk};
 ghost use Rattle.apex_disk.specs.Disk.{IsSettled, StaysGone};
 ghost use Rattle.apex_disk.specs.Moments.{LeavesOnly};
@@ -69,7 +69,7 @@ fn write_header<D: Disk>(alloc: Global, disk: &mut D, scale: Scale) -> Result<()
     }
 }
 
-/// What stands behind the store's gate: the rest of the heading, zeros, and the closed gate of the first half.
+/// What stands after the store's gate: the rest of the heading, zeros, and the closed gate of the first half.
 #[tactic(auto, using(crate::proofs::Fresh::header_of))]
 fn header(alloc: Global, scale: Scale) -> Result<Vec<u8>, AllocError>
     ensures { IfOk result (λ bytes. IsHeader scale bytes.items) }

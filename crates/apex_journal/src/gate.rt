@@ -1,4 +1,4 @@
-//! How every change of the journal reaches the device: behind a closed gate, which is opened once all is synced.
+//! How every change of the journal reaches the device: bytes after a closed gate, which is opened once all is synced.
 ghost use Rattle.std.specs.Prelude.{◌≡◌, ◌≤◌, ◌<◌, ◌+◌, ◌^◌, ℕ, List, option_map, length, OnOk};
 ghost use Rattle.apex_disk.specs.Disk.{IsSettled, CountsFaults, StaysGone};
 ghost use Rattle.apex_disk.specs.Moments.{LeavesOnly};
@@ -7,8 +7,8 @@ ghost use Rattle.apex_journal.specs.Gate.{gated, MayBeGated};
 use apex_base::Failed;
 use apex_disk::{Disk, write_and_sync};
 
-/// Writes behind the gate at that offset and syncs, and then opens the gate and syncs. The bytes bring a closed gate of
-/// their own, where something may come to stand behind them.
+/// Writes after the gate at that offset and syncs, and then opens the gate and syncs. The bytes bring a closed gate of
+/// their own, where something may come to stand after them.
 pub(crate) fn write_behind_gate<D: Disk>(
     disk: &mut D,
     gate: u64,

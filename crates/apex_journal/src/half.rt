@@ -6,7 +6,7 @@ ghost use Rattle.apex_journal.specs.Halves.{IsRead};
 use apex_base::Bytes;
 use std::alloc::{AllocError, Global};
 
-/// The records of a half, in order, and how many of its bytes they and the closed gate behind them use.
+/// The records of a half, in order, and how many of its bytes they and the closed gate after them use.
 #[derive(Drop)]
 pub struct HalfRead {
     pub records: Vec<Bytes>,
@@ -45,7 +45,7 @@ pub(crate) fn read_half(alloc: Global, half: &[u8]) -> Result<HalfRead, HalfWhy>
     })
 }
 
-/// The length of the record behind an open gate, if a closed gate may follow it.
+/// The length of the record after an open gate, if a closed gate may follow it.
 fn next_len(rest: &[u8]) -> Option<u32>
     ensures { MatchOption result
         ((length rest.now < 4) ⊎ (length rest.now ≤ 4 + from_be_bytes w32 (take 4 rest.now)))
@@ -65,7 +65,7 @@ fn push_copy(alloc: Global, records: &mut Vec<Bytes>, piece: &[u8]) -> Result<()
     ensures { OnOk result (records.new.items ≡ records.old.items ++ piece.now ∷ []) }
 {
     records.reserve(1)?;
-    let copy = piece.to_vec(alloc)?;
+    let copy = Vec::from_slice(alloc, piece)?;
     records.push_reserved(Bytes::of(copy));
     Ok(())
 }

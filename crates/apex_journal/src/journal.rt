@@ -1,16 +1,18 @@
 //! A journal that is open: records are appended to it, and each is there whole or not at all.
-ghost use Rattle.std.specs.Prelude.{◌≡◌, ◌≤◌, ◌<◌, ◌+◌, ◌*◌, ◌^◌, ◌++◌, [], ◌∷◌, List, ℕ, length, OnOk};
+ghost use Rattle.std.specs.Prelude.{◌≡◌, ◌≤◌, ◌<◌, ◌+◌, ◌*◌, ◌^◌, ◌++◌, [], ◌∷◌, List, ℕ, length, drop, OnOk, OnErr};
+ghost use Rattle.apex_disk.specs.Disk.{SameImages};
 ghost use Rattle.apex_disk.specs.Moments.{LeavesOnly};
+ghost use Rattle.apex_disk.specs.declared.disk.Entry.TheVariants.{Armed};
 ghost use Rattle.apex_journal.specs.Journal.{half_len, Stands};
 ghost use Rattle.apex_journal.specs.Appends.{AppendCounts, IsFullWhere, IsUnwritten, IsUntouched, MayHold};
 
-use crate::frame::frame;
+use crate::frame::{frame, with_room};
 use crate::gate::write_behind_gate;
 use crate::scale::{START, half_len};
 use crate::why::AppendWhy;
 use apex_base::Scale;
-use apex_disk::Disk;
-use std::alloc::Global;
+use apex_disk::{Device, Disk};
+use std::alloc::{AllocError, Global};
 use std::marker::Model;
 
 /// The records of a device, which it holds.
@@ -77,10 +79,43 @@ impl<D: Disk> Journal<D> {
         let used = self.used;
         let size = half_len(self.scale);
         let need = piece.len() as u64 + 5;
+        if used + need > size {
+            return Err(AppendWhy::JournalFull { used, need, size });
+        }
+        let Ok(bytes) = with_room(self.alloc, piece) else {
+            return Err(AppendWhy::NoMemory);
+        };
+        self.append_in_place(bytes)
+    }
+
+    /// Adds as a record what stands after the first four bytes, which are room for its length. No byte of the record
+    /// is copied. Else it is as `append`.
+    pub fn append_in_place(&mut self, bytes: Vec<u8>) -> Result<(), AppendWhy>
+        requires { 4 ≤ length bytes.items }
+        ensures appended { OnOk result ((records : List (List ℕ)) → Stands D.reads D.images self.old records → Stands D.reads D.images self.new (records ++ drop 4 bytes.items ∷ [])) }
+        ensures any_moment { (records : List (List ℕ)) → Stands D.reads D.images self.old records
+            → LeavesOnly D.moment D.images_since self.old.device self.new.device (MayHold result self.old.scale records (drop 4 bytes.items)) }
+
+        // A refusal.
+        ensures cause { AppendCounts (D.faults self.old.device) (D.faults self.new.device) result }
+        ensures full { IsFullWhere self.old.used (length bytes.items + 1) (half_len self.old.scale) result }
+        ensures unchanged { IsUnwritten result → (records : List (List ℕ)) → Stands D.reads D.images self.old records → Stands D.reads D.images self.new records }
+        ensures untouched { IsUntouched result → self.new ≡ self.old }
+
+        // What stays.
+        ensures gone { D.gone self.old.device → OnOk result ⊥ }
+        ensures log { D.log self.new.device ≡ D.log self.old.device }
+        ensures len { D.length_of self.new.device ≡ D.length_of self.old.device }
+        ensures scale { self.new.scale ≡ self.old.scale }
+        ensures start { self.new.start ≡ self.old.start }
+    {
+        let used = self.used;
+        let size = half_len(self.scale);
+        let need = bytes.len() as u64 + 1;
         if size < used + need {
             return Err(AppendWhy::JournalFull { used, need, size });
         }
-        let Ok(bytes) = frame(self.alloc, piece) else {
+        let Ok(bytes) = frame(bytes) else {
             return Err(AppendWhy::NoMemory);
         };
         if self.disk.reserve(4, need + 1).is_err() {
@@ -114,5 +149,28 @@ impl<D: Disk> Journal<D> {
             used: _,
         } = self;
         disk
+    }
+}
+
+impl<D: Device> Journal<D> {
+    /// Lets the power fail at the write of that number from now on, counted from 1, as the device's `arm` does. The
+    /// records stay as they are.
+    pub fn arm(&mut self, writes: u32, pick: u32) -> Result<(), AllocError>
+        ensures armed { OnOk result (D.log self.new.device ≡ D.log self.old.device ++ Armed writes pick ∷ []) }
+        ensures refused { OnErr result (D.log self.new.device ≡ D.log self.old.device) }
+        ensures any_moment { LeavesOnly D.moment D.images_since self.old.device self.new.device (D.images self.old.device) }
+
+        // What stays.
+        ensures stands { (records : List (List ℕ)) → Stands D.reads D.images self.old records → Stands D.reads D.images self.new records }
+        ensures reads { D.reads self.new.device ≡ D.reads self.old.device }
+        ensures images { SameImages (D.images self.old.device) (D.images self.new.device) }
+        ensures faults { D.faults self.new.device ≡ D.faults self.old.device }
+        ensures gone { D.gone self.old.device → D.gone self.new.device }
+        ensures len { D.length_of self.new.device ≡ D.length_of self.old.device }
+        ensures scale { self.new.scale ≡ self.old.scale }
+        ensures start { self.new.start ≡ self.old.start }
+        ensures used { self.new.used ≡ self.old.used }
+    {
+        self.disk.arm(writes, pick)
     }
 }

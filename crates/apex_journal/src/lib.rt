@@ -15,5 +15,5 @@ mod tests;
 mod why;
 
 pub use journal::Journal;
-pub use laws::records_are_one;
+pub use laws::{damaged_has_no_records, records_are_one};
 pub use why::{AppendWhy, JournalWhy};

@@ -27,12 +27,17 @@ impl<D: Disk> Journal<D> {
     ) -> Result<(Journal<D>, Vec<Bytes>), (D, JournalWhy)>
         ensures stands { IfOk result (λ opened. Stands D.reads D.images opened.0 opened.1.items) }
         ensures scale { IfOk result (λ opened. opened.0.scale ≡ scale) }
+        ensures start { IfOk result (λ opened. opened.0.start ≡ 4096) }
+        ensures long { OnOk result (scale_device_len scale ≤ D.length_of disk) }
+        ensures used { IfOk result (λ opened. opened.0.used ≡ length (blocks opened.1.items) + 1) }
+        ensures within { IfOk result (λ opened. opened.0.used ≤ half_len scale) }
 
         // A refusal, and what is known of a blank device.
         ensures refused { IfErr result (λ refused. WhyClosed scale (D.length_of disk) (D.reads disk) refused.1) }
         ensures cause { MatchResult result (λ opened. D.faults disk ≡ D.faults opened.0.device) (λ refused. CountsFault (D.faults disk) (D.faults refused.0) refused.1) }
         ensures blank { IfErr result (λ refused. refused.1 ≡ Blank → (c : List ℕ) → D.images refused.0 c → IsBlank c) }
         ensures gone { D.gone disk → OnOk result ⊥ }
+        ensures still_gone { IfErr result (λ refused. D.gone disk → D.gone refused.0) }
 
         // What stays.
         ensures reads { MatchResult result (λ opened. D.reads opened.0.device ≡ D.reads disk) (λ refused. D.reads refused.0 ≡ D.reads disk) }

@@ -121,6 +121,15 @@ fn failing(alloc: Global, call: u64) -> Option<MemDisk> {
     MemDisk::of(alloc, bytes, fails).ok()
 }
 
+/// Why a blank device isn't formatted, and how often it has failed.
+fn why_unformatted(alloc: Global, disk: MemDisk) -> Option<(JournalWhy, u64)> {
+    let Err((disk, JournalWhy::Blank)) = Journal::open(alloc, disk, Scale::Small) else {
+        return None;
+    };
+    let (disk, why) = Journal::format(alloc, disk, Scale::Small).err()?;
+    Some((why, disk.faults()))
+}
+
 #[test]
 fn a_failing_call_is_a_fault_wherever_it_comes(rt: HostRuntime) -> Result<(), Fail> {
     // Opening makes a sync and two reads.
@@ -131,6 +140,14 @@ fn a_failing_call_is_a_fault_wherever_it_comes(rt: HostRuntime) -> Result<(), Fa
         };
         assert_eq!(rt; why, JournalWhy::DiskFault);
         assert_eq!(rt; disk.faults(), 1);
+    }
+    // A format makes two writes, each with a sync; the opening before it a sync and a read.
+    for call in 3..7 {
+        let disk = MemDisk::blank(rt.alloc(), 1052672, [call].to_vec(rt.alloc())?)?;
+        assert_eq!(rt;
+            why_unformatted(rt.alloc(), disk),
+            Some((JournalWhy::DiskFault, 1))
+        );
     }
     // An append makes two writes, each with a sync. Only the last failure leaves the gate open.
     for (call, want) in [(4, 1), (5, 1), (6, 1), (7, 2)] {

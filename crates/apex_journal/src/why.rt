@@ -15,7 +15,7 @@ pub enum JournalWhy {
     /// It is a store of another scale.
     ScaleDiffers { found: u8, wanted: u8 },
 
-    /// Behind the open gate at that offset there is no whole record.
+    /// After the open gate at that offset there is no whole record.
     Damaged { offset: u64 },
 
     /// The device failed.

@@ -1,38 +1,30 @@
-//! Reads a manifest. What a name and a version are is the business of `apex_base`, what JSON is that of `serde_json`.
+//! Reads a manifest. `apex_base` decides what a name and a version are, and `serde_json` what JSON is.
 ghost use Rattle.std.specs.Prelude.{◌≡◌};
 ghost use Rattle.serde_json.specs.View.{view};
-ghost use Rattle.apex_manifest.specs.Manifest.{manifest_of, manifest_in, name_in, version_in};
-ghost use Rattle.apex_manifest.specs.Answers.{Answers};
+ghost use Rattle.apex_base.specs.Answers.{Answers};
+ghost use Rattle.apex_manifest.specs.Manifest.{manifest_of, manifest_from, name_in, version_in};
 
-use apex_base::{ModuleFault, Name, Version};
+use apex_base::{ModuleFault, Name, Version, Why};
 use serde_json::Value;
 use std::alloc::Global;
 
-/// What a manifest says: whose it is, and which version.
+/// What a manifest says: the module's name and its version.
 #[derive(Clone, Copy)]
 pub struct Manifest {
     pub name: Name,
     pub version: Version,
 }
 
-/// Why no manifest was read.
-#[derive(Clone, Copy)]
-pub enum ManifestWhy {
-    /// The bytes are none. The fault is `NotJson`, `NoName`, `BadName`, `NoVersion` or `BadVersion`.
-    Fault(ModuleFault),
-    /// There was no memory to read them.
-    NoMemory,
-}
+/// Why no manifest was read: the bytes aren't one, with the fault `NotJson`, `NoName`, `BadName`, `NoVersion` or
+/// `BadVersion`; or memory ran out.
+pub type ManifestWhy = Why<ModuleFault>;
 
-/// The manifest that the bytes are, or the first fault.
+/// The manifest that the bytes spell, or the first fault in the order of `ModuleFault`.
 pub fn read_manifest(alloc: Global, bytes: &[u8]) -> Result<Manifest, ManifestWhy>
     ensures manifest { Answers result (manifest_of bytes.now) }
 {
     match Value::from_slice(alloc, bytes) {
-        Ok(value) => match manifest_in(&value) {
-            Ok(manifest) => Ok(manifest),
-            Err(fault) => Err(ManifestWhy::Fault(fault)),
-        },
+        Ok(value) => manifest_from(&value).map_err(ManifestWhy::Fault),
         Err(error) => {
             if error.is_memory() {
                 return Err(ManifestWhy::NoMemory);
@@ -42,42 +34,28 @@ pub fn read_manifest(alloc: Global, bytes: &[u8]) -> Result<Manifest, ManifestWh
     }
 }
 
-// The faults are looked for in the order in which the rule has them.
-fn manifest_in(value: &Value) -> Result<Manifest, ModuleFault>
-    ensures said { result ≡ manifest_in (view value.now) }
+// The checks come in the order of `ModuleFault`.
+fn manifest_from(value: &Value) -> Result<Manifest, ModuleFault>
+    ensures said { result ≡ manifest_from (view value.now) }
 {
     if !value.is_object() {
         return Err(ModuleFault::NotJson);
     }
-    let Some(name) = value.get("name") else {
-        return Err(ModuleFault::NoName);
-    };
-    let Some(name) = name_in(name) else {
-        return Err(ModuleFault::BadName);
-    };
-    let Some(version) = value.get("version") else {
-        return Err(ModuleFault::NoVersion);
-    };
-    let Some(version) = version_in(version) else {
-        return Err(ModuleFault::BadVersion);
-    };
+    let name = value.get("name").ok_or(ModuleFault::NoName)?;
+    let name = name_in(name).ok_or(ModuleFault::BadName)?;
+    let version = value.get("version").ok_or(ModuleFault::NoVersion)?;
+    let version = version_in(version).ok_or(ModuleFault::BadVersion)?;
     Ok(Manifest { name, version })
 }
 
 fn name_in(member: &Value) -> Option<Name>
     ensures name { result ≡ name_in (view member.now) }
 {
-    match member.as_str() {
-        None => None,
-        Some(text) => Name::read(text.as_bytes()),
-    }
+    Name::read(member.as_str()?.as_bytes())
 }
 
 fn version_in(member: &Value) -> Option<Version>
     ensures version { result ≡ version_in (view member.now) }
 {
-    match member.as_u64() {
-        None => None,
-        Some(number) => Version::new(number),
-    }
+    Version::new(member.as_u64()?)
 }

@@ -1,5 +1,6 @@
 -- Turns in the order of a script. Callers want `in_order` and `fits`.
-use Rattle.std.proofs.Common.{◌≡◌, ℕ, Bool, true, false, ◌&&◌, eqb, List, [], ◌∷◌, ◌++◌, length, map, flat_map, sym, ap, ◌∙◌, subst, refl, inl, inr, ◌⊎◌}
+use Rattle.std.proofs.Common.{◌≡◌, ℕ, Bool, true, false, ◌&&◌, eqb, List, [], ◌∷◌, ◌++◌, length, map, flat_map, sym, ap}
+use Rattle.std.proofs.Common.{◌∙◌, subst, refl, inl, inr, ◌⊎◌}
 use Rattle.std.specs.Prelude.{IsTrue}
 use Rattle.std.specs.List.{AllByRecursion, list_any}
 use Rattle.std.proofs.lemmas.Bool.{false≢true}
@@ -9,7 +10,8 @@ use Rattle.apex_base.specs.Outside.{IsFront}
 use Rattle.apex_world.specs.declared.script.Script.{Script}
 use Rattle.apex_world.specs.declared.turns.Fate.TheVariants.{Answered}
 use Rattle.apex_world.specs.declared.turns.TurnRow.{TurnRow}
-use Rattle.apex_world.specs.Turns.{Position, position_of, positions, rounds, of_lane, IsWithinRound, AreInRounds, is_faulted, is_open, FateFits, FatesFit, Fits, IsInOrder}
+use Rattle.apex_world.specs.Turns.{Position, position_of, positions, rounds, of_lane, IsWithinRound, AreInRounds}
+use Rattle.apex_world.specs.Turns.{is_faulted, is_open, FateFits, FatesFit, Fits, IsInOrder}
 
 -- Fronts
 
@@ -47,9 +49,12 @@ AreInRounds-none (r ∷ rs) = ([], [], refl, (λ n. IsFront-none (of_lane n r)),
 
 -- a front of a round's steps has a front of each lane's
 within_front : (here round : List Position) → IsFront here round → IsWithinRound round here
-within_front here round f = λ n. (of_lane n f.0, ap (of_lane n) f.1 ∙ filter-append (λ (p : Position). eqb p.lane n) here f.0)
+within_front here round f =
+    λ n. (of_lane n f.0, ap (of_lane n) f.1 ∙ filter-append (λ (p : Position). eqb p.lane n) here f.0)
 
-rounds_step : (r : List Position) (rs : List (List Position)) (ts : List Position) → ((behind : List Position) → IsFront behind (flat rs) → AreInRounds rs behind) → Ends r (flat rs) ts → AreInRounds (r ∷ rs) ts
+rounds_step : (r : List Position) (rs : List (List Position)) (ts : List Position)
+    → ((behind : List Position) → IsFront behind (flat rs) → AreInRounds rs behind) → Ends r (flat rs) ts
+    → AreInRounds (r ∷ rs) ts
 rounds_step r rs ts more (inl f) = (ts, [], sym (append-nil ts), within_front ts r f, inl refl, AreInRounds-none rs)
 rounds_step r rs ts more (inr b) = (r, b.0, b.1, within_front r r (IsFront-all r), inr refl, more b.0 b.2)
 
@@ -63,7 +68,8 @@ in_rounds (r ∷ rs) ts f = rounds_step r rs ts (in_rounds rs) (front_ends r (fl
 abbrev IsAnswered : TurnRow → Type 0
 IsAnswered row = row.fate ≡ Answered
 
-all_parts : (before : List TurnRow) (row : TurnRow) (behind : List TurnRow) → AllByRecursion IsAnswered (before ++ row ∷ behind) → AllByRecursion IsAnswered before × IsAnswered row
+all_parts : (before : List TurnRow) (row : TurnRow) (behind : List TurnRow)
+    → AllByRecursion IsAnswered (before ++ row ∷ behind) → AllByRecursion IsAnswered before × IsAnswered row
 all_parts [] row behind a = (tt, a.0)
 all_parts (r ∷ before) row behind a = let more = all_parts before row behind a.1 in ((a.0, more.0), more.1)
 
@@ -71,11 +77,13 @@ and_false : (b : Bool) → (b && false) ≡ false
 and_false true = refl
 and_false false = refl
 
-none_faulted : (n : ℕ) (rows : List TurnRow) → AllByRecursion IsAnswered rows → list_any (λ (r : TurnRow). eqb r.boot n && is_faulted r.fate) rows ≡ false
+none_faulted : (n : ℕ) (rows : List TurnRow) → AllByRecursion IsAnswered rows
+    → list_any (λ (r : TurnRow). eqb r.boot n && is_faulted r.fate) rows ≡ false
 none_faulted n [] a = refl
 none_faulted n (r ∷ rows) a = rw (a.0, and_false (eqb r.boot n)) (none_faulted n rows a.1)
 
-none_open : (rows : List TurnRow) → AllByRecursion IsAnswered rows → list_any (λ (r : TurnRow). is_open r.fate) rows ≡ false
+none_open : (rows : List TurnRow) → AllByRecursion IsAnswered rows
+    → list_any (λ (r : TurnRow). is_open r.fate) rows ≡ false
 none_open [] a = refl
 none_open (r ∷ rows) a = rw a.0 (none_open rows a.1)
 
@@ -83,7 +91,8 @@ not_true : {P : Type 0} (b : Bool) → b ≡ false → IsTrue b → P
 not_true true e t = absurd (false≢true (sym e))
 not_true false e t = absurd (false≢true t)
 
-answered_fits : (before : List TurnRow) (row : TurnRow) → AllByRecursion IsAnswered before → IsAnswered row → FateFits before row
+answered_fits : (before : List TurnRow) (row : TurnRow) → AllByRecursion IsAnswered before → IsAnswered row
+    → FateFits before row
 answered_fits before row a is = record {
   closed = (λ e. absurd (cc (is, e)), λ t. not_true _ (none_faulted row.boot before a) t);
   open_boot = λ t _. not_true _ (none_open before a) t;
@@ -99,12 +108,20 @@ fates_fit rows a before row behind e =
 -- Turns of a script
 
 -- turns that are all answered, and the first of the script's steps, are in its order
-pub in_order : (script : Script) (rows : List TurnRow) → AllByRecursion IsAnswered rows → IsFront (map position_of rows) (positions script) → IsInOrder script rows
-in_order script rows a f = record { begins = record { order = in_rounds (rounds script) (map position_of rows) f; fates = fates_fit rows a }; in_blocks = f }
+pub in_order : (script : Script) (rows : List TurnRow) → AllByRecursion IsAnswered rows
+    → IsFront (map position_of rows) (positions script) → IsInOrder script rows
+in_order script rows a f =
+    record {
+      begins = record { order = in_rounds (rounds script) (map position_of rows) f; fates = fates_fit rows a };
+      in_blocks = f;
+    }
 
 -- and fit it where they are all of them
-pub fits : (script : Script) (rows : List TurnRow) → AllByRecursion IsAnswered rows → map position_of rows ≡ positions script → Fits script rows
+pub fits : (script : Script) (rows : List TurnRow) → AllByRecursion IsAnswered rows
+    → map position_of rows ≡ positions script → Fits script rows
 fits script rows a e = record {
-  begins = (in_order script rows a (subst (λ ps. IsFront ps (positions script)) (sym e) (IsFront-all (positions script)))).begins;
+  begins =
+      (in_order script rows a
+      (subst (λ ps. IsFront ps (positions script)) (sym e) (IsFront-all (positions script)))).begins;
   whole = sym (length-map rows position_of) ∙ ap length e;
 }

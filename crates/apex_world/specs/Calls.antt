@@ -1,4 +1,4 @@
--- Calls where they stand.
+-- Borrowed calls.
 use Rattle.apex_world.specs.declared.calls.Call.{Call}
 use Rattle.apex_world.specs.declared.calls.Call.TheVariants as calls
 use Rattle.apex_world.specs.declared.calls.CallRef.{CallRef}

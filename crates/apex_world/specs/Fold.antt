@@ -2,10 +2,10 @@
 use Rattle.std.specs.Prelude.{ℕ, ◌-◌, ◌==◌, List, Option, Some, None, fold, flat_map, slice_get, option_and_then, if◌then◌else◌}
 use Rattle.std.specs.Option.{option_map}
 use Rattle.apex_world.specs.declared.calls.Call.{Call}
-use Rattle.apex_world.specs.declared.calls.Reply.{Reply}
-use Rattle.apex_world.specs.declared.calls.BootReply.{BootReply}
 use Rattle.apex_world.specs.declared.script.Script.{Script}
 use Rattle.apex_world.specs.declared.script.ScriptBoot.{ScriptBoot}
+use Rattle.apex_world.specs.declared.turns.Shown.{Shown}
+use Rattle.apex_world.specs.declared.turns.Shown.TheVariants.{Booted, Replied, Fated}
 use Rattle.apex_world.specs.declared.turns.TurnRow.{TurnRow}
 use Rattle.apex_world.specs.declared.turns.Fate.{Fate}
 use Rattle.apex_world.specs.declared.turns.Fate.TheVariants.{Answered, Kept, Lost, Open, Closed, NoMemory, Full}
@@ -14,12 +14,6 @@ use Rattle.apex_world.specs.Selection.{all_mount_but}
 use Rattle.apex_world.specs.Boot.{boot_world, boot_reply}
 use Rattle.apex_world.specs.Step.{step}
 use Rattle.apex_world.specs.Turns.{lane_calls, is_boot}
-
--- what a turn shows: the answer of a boot or a call, or its fate alone
-pub data Shown : Type 0 where
-  Booted : BootReply → Shown
-  Replied : Reply → Shown
-  Fated : Shown
 
 -- the world after a turn, and what the turn shows
 pub record Turned : Type 0 where

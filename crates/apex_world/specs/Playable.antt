@@ -34,8 +34,9 @@ pub record IsPlayableSegment (segment : Segment) : Type 0 where
   pub numbers : AllPairs (λ a b. a.number ≢ b.number) segment.lanes
   pub lanes : All IsPlayableLane segment.lanes
 
--- each lane has fewer steps since the boot than a bound
+-- each lane has fewer steps since the boot than a bound; no line registers an observer so far
 pub record IsPlayableBoot (bound : ℕ) (boot : ScriptBoot) : Type 0 where
+  pub alone : boot.order.observers ≡ []
   pub steps : (lane : ℕ) → length (lane_calls lane (flat_map (λ (s : Segment). s.lanes) boot.segments)) < bound
   pub segments : All IsPlayableSegment boot.segments
 

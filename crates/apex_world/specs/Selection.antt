@@ -88,7 +88,7 @@ choice mounts modules (targets.Module session part version) m = if is_none (subm
 abbrev pub pick_of : Mounts → List Submission → List Record → Package → Pick
 pick_of mounts modules sessions m = record { name = m.name; chosen = choice mounts modules (held sessions m.name) m }
 
--- a pick among others, behind those of lesser names
+-- a pick among others, after those of lesser names
 abbrev pub with_pick : Pick → List Pick → List Pick
 with_pick p [] = p ∷ []
 with_pick p (q ∷ qs) = if is_lt (slice_cmp nat_cmp q.name p.name) then q ∷ with_pick p qs else p ∷ q ∷ qs

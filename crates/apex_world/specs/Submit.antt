@@ -78,7 +78,7 @@ abbrev pub twice_named : List Package → List Package → Option Refusal
 twice_named earlier [] = None
 twice_named earlier (p ∷ ps) = if list_any (λ e. bytes_eq e.name p.name) earlier then Some (TwiceNamed p.name) else twice_named (p ∷ earlier) ps
 
--- 6 to 9 are each told of the first part that they hold of
+-- 6 to 9 are each reported of the first part that they hold of
 
 abbrev pub or_else : Option Refusal → Option Refusal → Option Refusal
 or_else None next = next

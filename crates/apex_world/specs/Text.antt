@@ -26,7 +26,9 @@ use Rattle.apex_world.specs.declared.turns.TurnRow.{TurnRow}
 use Rattle.apex_world.specs.declared.turns.Fate.{Fate}
 use Rattle.apex_world.specs.declared.turns.Fate.TheVariants as fates
 use Rattle.apex_world.specs.World.{World, empty_world}
-use Rattle.apex_world.specs.Fold.{Shown, Booted, Replied, Fated, turn}
+use Rattle.apex_world.specs.declared.turns.Shown.{Shown}
+use Rattle.apex_world.specs.declared.turns.Shown.TheVariants.{Booted, Replied, Fated}
+use Rattle.apex_world.specs.Fold.{turn}
 
 -- Words
 
@@ -155,7 +157,7 @@ abbrev pub loop_text : Option (Option (List ℕ) × List SessionId) → List ℕ
 loop_text None = []
 loop_text (Some t) = codes "loop " ++ observer_text t.0 ++ id_words t.1 ++ codes "\n"
 
--- the place of a turn, with a space behind it
+-- the place of a turn, with a space after it
 unfoldable pub turn_mark : TurnRow → List ℕ
 turn_mark row = decimal row.boot ++ codes "." ++ decimal row.lane ++ codes "." ++ decimal row.step ++ codes " "
 

@@ -26,12 +26,12 @@ position_of row = record { boot = row.boot; lane = row.lane; step = row.step }
 abbrev pub lane_calls : ℕ → List Lane → List Call
 lane_calls lane blocks = flat_map (λ b. if b.number == lane then b.calls else []) blocks
 
--- the positions of calls of a lane, behind its first k
+-- the positions of calls of a lane, after its first k
 abbrev pub call_positions : ℕ → ℕ → ℕ → List Call → List Position
 call_positions boot lane k [] = []
 call_positions boot lane k (call ∷ calls) = record { boot = boot; lane = lane; step = k + 1 } ∷ call_positions boot lane (k + 1) calls
 
--- the positions of lane blocks, one block behind the other, behind earlier blocks of that boot
+-- the positions of lane blocks, one block after another, after earlier blocks of that boot
 abbrev pub block_positions : ℕ → List Lane → List Lane → List Position
 block_positions boot earlier [] = []
 block_positions boot earlier (b ∷ bs) = call_positions boot b.number (length (lane_calls b.number earlier)) b.calls ++ block_positions boot (earlier ++ b ∷ []) bs
@@ -50,11 +50,11 @@ abbrev pub rounds_from : ℕ → List ScriptBoot → List (List Position)
 rounds_from k [] = []
 rounds_from k (b ∷ bs) = boot_rounds (k + 1) b ++ rounds_from (k + 1) bs
 
--- the rounds of a script, one behind the other; within a round the lanes may run at the same time
+-- the rounds of a script, one after another; within a round the lanes may run at the same time
 abbrev pub rounds : Script → List (List Position)
 rounds script = rounds_from 0 script.boots
 
--- all positions of a script, the lanes of a round one behind the other in the order of their blocks
+-- all positions of a script, the lanes of a round one after another in the order of their blocks
 abbrev pub positions : Script → List Position
 positions script = flat_map (λ round. round) (rounds script)
 
@@ -67,7 +67,7 @@ of_lane lane ps = filter (λ p. p.lane == lane) ps
 abbrev pub IsWithinRound : List Position → List Position → Type 0
 IsWithinRound round turns = (lane : ℕ) → IsFront (of_lane lane turns) (of_lane lane round)
 
--- the turns of a round stand behind those of earlier ones, each of which has all its steps
+-- the turns of a round come after those of earlier ones, each of which has all its steps
 abbrev pub AreInRounds : List (List Position) → List Position → Type 0
 AreInRounds [] turns = turns ≡ []
 AreInRounds (round ∷ rs) turns =
@@ -98,12 +98,12 @@ is_boot row = (row.lane == 0) && (row.step == 0)
 
 -- a turn's fate beside those before it
 pub record FateFits (before : List TurnRow) (row : TurnRow) : Type 0 where
-  -- a turn is closed exactly where an earlier turn of its boot is faulted
+  -- a turn is closed if and only if an earlier turn of its boot is faulted
   pub closed : (row.fate ≡ Closed) ↔ IsTrue (list_any (λ r. (r.boot == row.boot) && is_faulted r.fate) before)
-  -- behind an open turn each boot is lost and each call closed, so that no other turn is open
+  -- after an open turn each boot is lost and each call closed, so that no other turn is open
   pub open_boot : IsTrue (list_any (λ r. is_open r.fate) before) → IsTrue (is_boot row) → row.fate ≡ Lost
   pub open_call : IsTrue (list_any (λ r. is_open r.fate) before) → is_boot row ≡ false → row.fate ≡ Closed
-  -- a boot that wants memory has no turn
+  -- a boot that runs out of memory has no turn
   pub entered : IsTrue (is_boot row) → row.fate ≢ NoMemory
 
 abbrev pub FatesFit : List TurnRow → Type 0
@@ -121,7 +121,7 @@ pub record Fits (script : Script) (rows : List TurnRow) : Type 0 where
   pub begins : Begins script rows
   pub whole : length rows ≡ length (positions script)
 
--- the lanes of a round stand one behind the other, in the order of their blocks
+-- the lanes of a round come one after another, in the order of their blocks
 pub record IsInOrder (script : Script) (rows : List TurnRow) : Type 0 where
   pub begins : Begins script rows
   pub in_blocks : IsFront (map position_of rows) (positions script)

@@ -14,7 +14,7 @@ pub type IdList = Listed<SessionId>;
 /// Names, seen as a list.
 pub type NameList = Listed<Name>;
 
-/// A call of the manager.
+/// A call of the manager. No line makes a `Revert`, `Commit`, `Put`, `Drop`, `Get`, `Watch` or `Report` yet.
 #[derive(Drop)]
 pub enum Call {
     Submit {
@@ -66,7 +66,7 @@ pub enum Call {
     },
 }
 
-/// A call where it stands: what it holds is borrowed.
+/// A borrowed call.
 #[derive(Clone, Copy)]
 pub enum CallRef<'a> {
     Submit {
@@ -119,7 +119,7 @@ pub enum CallRef<'a> {
 }
 
 impl Call {
-    /// The call where it stands.
+    /// The call, borrowed.
     pub fn borrowed(&self) -> CallRef<'_>
         ensures { call_at result ≡ self.now }
     {
@@ -171,7 +171,7 @@ impl Call {
     }
 }
 
-/// What a call answers.
+/// What a call answers. No call answers `Committed`, `Value`, `Noted` or `Triggered` yet.
 #[derive(Drop)]
 pub enum Reply {
     Done,
@@ -197,7 +197,7 @@ pub enum ObserverKind {
     Rollback,
 }
 
-/// Somebody who may act when a module fails.
+/// Somebody who may act when a module fails. No line makes one yet.
 #[derive(Clone, Copy)]
 pub struct Observer {
     pub name: Name,
@@ -231,7 +231,7 @@ pub type ChangeList = Listed<Changed>;
 pub type ActiveSet = Listed<Pick>;
 
 /// What a boot answers: its number, the sessions that it changed, the active set, and the trigger of the boot
-/// loop where there was one: who acts, if anybody, and the sessions that were made.
+/// loop, if there was one: who acts, if anybody, and the sessions that were made. So far nobody acts.
 #[derive(Drop)]
 pub struct BootReply {
     pub number: u32,

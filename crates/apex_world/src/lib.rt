@@ -1,9 +1,11 @@
-//! The world of the module manager: its calls, its boots, its scripts, its turns and its text. The types stand
-//! here; what they mean stands in `specs/`, one file a subject.
+//! The world of the module manager: its calls, boots, scripts, turns and text. The types are here; what they mean is in
+//! `specs/`, one file for each subject.
 #![tactic(auto)]
 
 mod calls;
+mod laws;
 mod modules;
+mod row_laws;
 mod script;
 mod segments;
 mod turns;
@@ -13,13 +15,22 @@ pub use calls::{
     ActiveSet, BootOrder, BootReply, Call, CallRef, ChangeList, Changed, IdList, Image, NameList,
     Observer, ObserverKind, ObserverList, Reply,
 };
+pub use laws::{
+    activated_sessions_are_whole, empty_world_is_lawful, plain_worlds_do_less,
+    plain_worlds_stay_plain, refusals_change_nothing, rollbacks_bring_back_data, sessions_stay,
+};
 pub use modules::{
     ModuleList, Package, PackageList, SharedModule, check_module, manifest_in,
     sound_modules_are_sealed,
 };
+pub use row_laws::{
+    alike_worlds_have_the_same_parts, data_rows_weigh_the_data, file_rows_weigh_the_modules,
+    quiet_calls_tell_no_alike_worlds_apart, rows_are_those_of_their_keys, rows_hold_the_modules,
+    rows_open_to_their_world, same_rows_store_the_same,
+};
 pub use script::{BootList, CallList, Cut, Lane, LaneList, MountList, Script, ScriptBoot, Segment};
 pub use segments::{Placed, SegmentList, SingleSubmit, Step};
-pub use turns::{Fate, TurnRow, Turns};
+pub use turns::{Fate, Shown, TurnRow, Turns};
 pub use world::Submission;
 
 #[cfg(test)]

@@ -1,20 +1,19 @@
-//! Modules as the world holds them: each stands in memory once, whoever holds it.
+//! Modules as the world holds them: each is in memory once, however many owners it has.
 ghost use Rattle.std.specs.Prelude.{◌≡◌, ◌≤◌, ◌↔◌, codes, IsTrue, IsOk, IfOk, Ok, Some, option_map};
 ghost use Rattle.std.specs.FinMap as fin;
+ghost use Rattle.apex_base.specs.Answers.{Answers};
 ghost use Rattle.apex_base.specs.Modules.{module_weight};
-ghost use Rattle.apex_manifest.specs.Answers.{Answers};
 ghost use Rattle.module_digest.specs.Listing.{listing};
 ghost use Rattle.apex_world.specs.Soundness.{manifest_in, checked, is_sound, key_of, is_same_key, short_form};
 
 use apex_base::{FilePath, Listed, Module, ModuleFault, Name, Shared, Version};
 use apex_manifest::{Manifest, ManifestWhy, read_manifest};
 use itoa::Buffer;
-use module_digest::{CheckWhy, check_listing, sound_listing_is_the_listing};
+use module_digest::{check_listing, sound_listing_is_the_listing};
 use std::alloc::{AllocError, Global};
 use std::marker::Model;
 
-/// What the manifest of a module says. `NoManifest` comes exactly where it has none, else the fault is that of
-/// `read_manifest`.
+/// What the manifest of a module says. The fault is `NoManifest` if it has none, otherwise that of `read_manifest`.
 pub fn manifest_in(alloc: Global, directory: &Module) -> Result<Manifest, ManifestWhy>
     ensures { Answers result (manifest_in directory.now) }
 {
@@ -28,59 +27,21 @@ pub fn manifest_in(alloc: Global, directory: &Module) -> Result<Manifest, Manife
 pub fn check_module(alloc: Global, directory: &Module) -> Result<Manifest, ManifestWhy>
     ensures { Answers result (checked directory.now) }
 {
-    let manifest = match manifest_in(alloc, directory) {
-        Ok(manifest) => manifest,
-        Err(why) => return Err(why),
-    };
-    match check_listing(alloc, directory) {
-        Ok(()) => Ok(manifest),
-        Err(CheckWhy::Fault(fault)) => Err(ManifestWhy::Fault(fault)),
-        Err(CheckWhy::NoMemory) => Err(ManifestWhy::NoMemory),
-    }
+    let manifest = manifest_in(alloc, directory)?;
+    check_listing(alloc, directory)?;
+    Ok(manifest)
 }
 
-/// A module is sound exactly where its manifest reads and its listing is the one that it should have.
+/// A law: a module is sound if and only if its manifest reads and its listing is the one that it should have.
 pub fn sound_modules_are_sealed(directory: &Module)
-    ensures { IsTrue (is_sound directory.now) ↔ (IsOk (manifest_in directory.now) × (fin.get directory.now (codes "apex_digests") ≡ Some (listing directory.now))) }
+    ensures { IsTrue (is_sound directory.now)
+        ↔ (IsOk (manifest_in directory.now) × (fin.get directory.now (codes "apex_digests") ≡ Some (listing directory.now))) }
 {
     sound_listing_is_the_listing(directory);
 }
 
-/// What the manifest of the short form `NAME@VERSION` says.
-fn short_says(name: &Name, version: Version) -> Manifest
-    ensures manifest { manifest_in (short_form name.now version) ≡ Ok result }
-    ensures checked { checked (short_form name.now version) ≡ Ok result }
-{
-    let _ = name.as_bytes();
-    let _ = version.number();
-    Manifest {
-        name: *name,
-        version,
-    }
-}
-
-/// The weight of the short form: two files, of which the listing has 84 bytes, and the manifest 22 bytes beside
-/// the name and the version.
-fn short_weight(name: &Name, version: Version) -> u64
-    ensures weight { result ≡ module_weight (short_form name.now version) }
-    ensures small { result ≤ 67125248 }
-{
-    let mut buffer = Buffer::new();
-    let digits = buffer.format(version.number()).len();
-    (name.as_bytes().len() + digits) as u64 + 22 + 84 + 2 * 256
-}
-
-/// How a module stands in memory.
-#[derive(Drop)]
-enum Form {
-    /// By name and version alone.
-    Short { name: Name, version: Version },
-    /// In files that several owners share.
-    Files(Shared<Module>),
-}
-
-/// A module that several owners may hold: its files stand in memory once, and those of the short form not at
-/// all. A contract sees its files.
+/// A module that several owners may hold: its files are in memory once, and those of the short form not at all. A
+/// contract sees its files.
 #[derive(Drop)]
 pub struct SharedModule {
     form: Form,
@@ -102,7 +63,7 @@ impl Model for SharedModule {
 }
 
 impl SharedModule {
-    /// Moves the module to where it can be shared.
+    /// Moves the module to where it can be shared. Fails only if memory runs out.
     pub fn of(alloc: Global, directory: Module) -> Result<Self, AllocError>
         ensures { IfOk result (λ shared. shared ≡ directory) }
     {
@@ -121,7 +82,7 @@ impl SharedModule {
         }
     }
 
-    /// One owner more. No file is copied.
+    /// One more owner. No file is copied. Fails only if memory runs out.
     pub fn share(&self) -> Result<Self, AllocError>
         ensures { IfOk result (λ shared. shared ≡ self.now) }
     {
@@ -156,7 +117,7 @@ impl SharedModule {
         }
     }
 
-    /// Whether the module is sound.
+    /// Whether the module is sound. Fails only if memory runs out.
     pub fn is_sound(&self, alloc: Global) -> Result<bool, AllocError>
         ensures { IfOk result (λ sound. sound ≡ is_sound self.now) }
     {
@@ -176,7 +137,7 @@ impl SharedModule {
         }
     }
 
-    /// Whether the two modules have one key, or none has any.
+    /// Whether the two modules have the same key, or neither has any.
     pub fn has_key_of(&self, other: &Self) -> bool
         ensures { result ≡ is_same_key self.now other.now }
     {
@@ -208,3 +169,36 @@ pub struct Package {
 
 /// Packages, seen as a list.
 pub type PackageList = Listed<Package>;
+
+/// How a module is kept in memory.
+#[derive(Drop)]
+enum Form {
+    /// By name and version alone.
+    Short { name: Name, version: Version },
+    /// In files that several owners share.
+    Files(Shared<Module>),
+}
+
+/// The weight of the short form: two files, of which the listing has 84 bytes, and the manifest 22 bytes beside
+/// the name and the version.
+fn short_weight(name: &Name, version: Version) -> u64
+    ensures weight { result ≡ module_weight (short_form name.now version) }
+    ensures small { result ≤ 67125248 }
+{
+    let mut buffer = Buffer::new();
+    let digits = buffer.format(version.number()).len();
+    (name.as_bytes().len() + digits) as u64 + 22 + 84 + 2 * 256
+}
+
+/// What the manifest of the short form `NAME@VERSION` says.
+fn short_says(name: &Name, version: Version) -> Manifest
+    ensures manifest { manifest_in (short_form name.now version) ≡ Ok result }
+    ensures checked { checked (short_form name.now version) ≡ Ok result }
+{
+    let _ = name.as_bytes();
+    let _ = version.number();
+    Manifest {
+        name: *name,
+        version,
+    }
+}

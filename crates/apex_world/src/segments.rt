@@ -10,7 +10,7 @@ use std::marker::Model;
 use std::mem::size_of;
 use std::slice;
 
-/// A submit of one part without children, as it stands outside lane blocks.
+/// A submit of one part without children, outside lane blocks.
 #[derive(Drop)]
 pub struct SingleSubmit {
     pub id: SessionId,
@@ -18,7 +18,7 @@ pub struct SingleSubmit {
     pub part: SharedModule,
 }
 
-/// How a segment stands in memory. The common calls outside lane blocks have forms of their own.
+/// How a segment is kept in memory. The common calls outside lane blocks have forms of their own.
 #[derive(Drop)]
 pub enum Step {
     Submit(Box<SingleSubmit>),
@@ -26,15 +26,15 @@ pub enum Step {
     Abort { id: SessionId },
     Success { id: SessionId, time: Millis },
     StateOf { id: SessionId },
-    /// Any other call outside lane blocks.
+    /// Any other call outside lane blocks. No line makes one yet.
     Other(Box<Call>),
-    /// Lanes, or a segment with a cut.
+    /// Lanes, or a segment with a cut. No line makes one yet.
     Lanes(Box<Segment>),
 }
 
 const _: () = prove!(size_of::<Step>() == 16);
 
-/// A segment where it stands: one call outside lane blocks, or lanes.
+/// A borrowed segment: one call outside lane blocks, or lanes.
 #[derive(Clone, Copy)]
 pub enum Placed<'a> {
     Plain(CallRef<'a>),
@@ -55,7 +55,7 @@ impl SingleSubmit {
 }
 
 impl Step {
-    /// The segment where it stands.
+    /// The segment, borrowed.
     pub fn placed(&self) -> Placed<'_>
         ensures { segment_at result ≡ segment_of self.now }
     {
@@ -104,7 +104,7 @@ impl SegmentList {
         }
     }
 
-    /// Adds a segment at the end. The list may be of any content where memory runs out.
+    /// Adds a segment at the end. Fails only if memory runs out; the list may then hold anything.
     pub fn push(&mut self, step: Step) -> Result<(), AllocError>
         ensures { OnOk result (self.new ≡ self.old ++ segment_of step ∷ []) }
     {
@@ -112,7 +112,7 @@ impl SegmentList {
         Ok(())
     }
 
-    /// The segments as they stand in memory.
+    /// The segments as they are kept in memory.
     pub fn steps(&self) -> &[Step]
         ensures { map segment_of result.now ≡ self.now }
     {

@@ -1,4 +1,4 @@
-//! What no clause says: calls with ample memory answer otherwise than that it is wanting.
+//! What no clause says: calls with ample memory don't run out of it.
 use crate::{SharedModule, check_module};
 use apex_base::{FilePath, Module, ModuleFault, Name, Version};
 use apex_manifest::ManifestWhy;

@@ -1,7 +1,8 @@
 //! The turns of a run: which boot or call of the script it was, and what became of it.
+use crate::calls::{BootReply, Reply};
 use apex_base::Listed;
 
-/// What became of a turn. Answered and Kept ones happened; the others left all as it was.
+/// What became of a turn. Answered and Kept ones happened; the others changed nothing. Every turn is Answered so far.
 #[derive(Clone, Copy, Debug, PartialEq, Eq)]
 pub enum Fate {
     Answered,
@@ -25,3 +26,11 @@ pub struct TurnRow {
 
 /// Turns in the order of the history, seen as a list.
 pub type Turns = Listed<TurnRow>;
+
+/// What a turn shows: the answer of a boot or of a call, or its fate alone.
+#[derive(Drop)]
+pub enum Shown {
+    Booted(BootReply),
+    Replied(Reply),
+    Fated,
+}

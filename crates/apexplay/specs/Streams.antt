@@ -1,4 +1,4 @@
--- What the adapters tell of the bytes behind them.
+-- What the adapters tell of the bytes of their streams.
 use Rattle.std.specs.Prelude.{ℕ, List, Option}
 use Rattle.std.specs.Io.KnownBytes.{append_known}
 use Rattle.apexplay.specs.declared.streams.Reading.{Reading}

@@ -15,7 +15,7 @@ use std::process::ExitCode;
 use std::rt::Env;
 use std::{env, io};
 
-/// The words behind the program's name, or the status at which the program ends without them.
+/// The words after the program's name, or the status at which the program ends without them.
 fn words(rt: &(impl Env + AllocGlobal)) -> Result<Vec<String>, Status>
     ensures { IfErr result (λ status. (status ≡ Status.Usage) ⊎ (status ≡ Status.Memory)) }
 {

@@ -1,12 +1,7 @@
-pub mod Bounds
 pub mod Counts
-pub mod InPlace
 pub mod Plans
 pub mod PlayedLemmas
-pub mod Puts
 pub mod Runs
-pub mod Search
 pub mod Sources
 pub mod Statuses
 pub mod Steps
-pub mod Submits

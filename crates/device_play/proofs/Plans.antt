@@ -1,6 +1,7 @@
 -- The plan of a script: its turns are the script's, in its order, and each step is what the script says there.
 -- Callers want `plan_played` and `plan_stopped`.
-use Rattle.std.proofs.Common.{◌≡◌, ℕ, ◌+◌, ◌-◌, Bool, true, false, ◌&&◌, cond, eqb, List, [], ◌∷◌, ◌++◌, length, map, flat_map, Some, slice_get, sym, ap, ◌∙◌, subst, refl, arith, append_assoc}
+use Rattle.std.proofs.Common.{◌≡◌, ℕ, ◌+◌, ◌-◌, Bool, true, false, ◌&&◌, cond, eqb, List, [], ◌∷◌, ◌++◌, length, map}
+use Rattle.std.proofs.Common.{flat_map, Some, slice_get, sym, ap, ◌∙◌, subst, refl, arith, append_assoc}
 use Rattle.std.specs.List.{All, AllByRecursion}
 use Rattle.std.specs.Option.{option_and_then}
 use Rattle.std.proofs.lemmas.Bool.Decides.{nat_tests}
@@ -17,9 +18,11 @@ use Rattle.apex_world.specs.declared.turns.TurnRow.{TurnRow}
 use Rattle.apex_world.specs.World.{World, empty_world}
 use Rattle.apex_world.specs.Fold.{nth, call_in, event_in, event_at, turn, turned_by, turned_at, Turned}
 use Rattle.apex_world.specs.Text.{turn_lines, lines_from}
-use Rattle.apex_world.specs.Turns.{Position, position_of, lane_calls, call_positions, block_positions, segment_rounds, boot_rounds, rounds_from, positions, IsInOrder, Fits}
+use Rattle.apex_world.specs.Turns.{Position, position_of, lane_calls, call_positions, block_positions, segment_rounds}
+use Rattle.apex_world.specs.Turns.{boot_rounds, rounds_from, positions, IsInOrder, Fits}
 use Rattle.apex_world.proofs.TurnLemmas.{in_order, fits}
-use Rattle.device_play.specs.Run.{Planned, rows_of, planned_call, call_plan, block_plan, segment_plan, boot_plan, boots_plan, plan_lines}
+use Rattle.device_play.specs.Run.{Planned, rows_of, planned_call, call_plan, block_plan, segment_plan, boot_plan}
+use Rattle.device_play.specs.Run.{boots_plan, plan_lines}
 use Rattle.device_play.proofs.Runs.{lanes_of}
 
 -- Positions
@@ -49,7 +52,8 @@ places-blocks b e (l ∷ ls) =
 abbrev flat : List (List Position) → List Position
 flat rs = flat_map (λ (r : List Position). r) rs
 
-places-segments : (b : ℕ) (e : List Lane) (ss : List Segment) → places (segment_plan b e ss) ≡ flat (segment_rounds b e ss)
+places-segments : (b : ℕ) (e : List Lane) (ss : List Segment)
+    → places (segment_plan b e ss) ≡ flat (segment_rounds b e ss)
 places-segments b e [] = refl
 places-segments b e (s ∷ ss) =
     places-append (block_plan b e s.lanes) (segment_plan b (e ++ s.lanes) ss)
@@ -69,15 +73,18 @@ places-boots k (b ∷ bs) =
 
 -- Events
 
-AllByRecursion-append : {X : Type 0} (P : X → Type 0) (xs ys : List X) → AllByRecursion P xs → AllByRecursion P ys → AllByRecursion P (xs ++ ys)
+AllByRecursion-append : {X : Type 0} (P : X → Type 0) (xs ys : List X) → AllByRecursion P xs → AllByRecursion P ys
+    → AllByRecursion P (xs ++ ys)
 AllByRecursion-append P [] ys a b = b
 AllByRecursion-append P (x ∷ xs) ys a b = (a.0, AllByRecursion-append P xs ys a.1 b)
 
-AllByRecursion-front : {X : Type 0} (P : X → Type 0) (xs ys : List X) → AllByRecursion P (xs ++ ys) → AllByRecursion P xs
+AllByRecursion-front : {X : Type 0} (P : X → Type 0) (xs ys : List X) → AllByRecursion P (xs ++ ys)
+    → AllByRecursion P xs
 AllByRecursion-front P [] ys a = tt
 AllByRecursion-front P (x ∷ xs) ys a = (a.0, AllByRecursion-front P xs ys a.1)
 
-AllByRecursion-weaker : {X : Type 0} (P Q : X → Type 0) → ((x : X) → P x → Q x) → (xs : List X) → AllByRecursion P xs → AllByRecursion Q xs
+AllByRecursion-weaker : {X : Type 0} (P Q : X → Type 0) → ((x : X) → P x → Q x) → (xs : List X) → AllByRecursion P xs
+    → AllByRecursion Q xs
 AllByRecursion-weaker P Q f [] a = tt
 AllByRecursion-weaker P Q f (x ∷ xs) a = (f x a.0, AllByRecursion-weaker P Q f xs a.1)
 
@@ -101,34 +108,44 @@ and_false : (b : Bool) → (b && false) ≡ false
 and_false true = refl
 and_false false = refl
 
-call_step : (b n k : ℕ) (boot : ScriptBoot) (xs ys : List Call) (c : Call) → lane_calls n (lanes_of boot.segments) ≡ xs ++ c ∷ ys → k ≡ length xs → IsStepOf b boot (planned_call b n (k + 1) c)
+call_step : (b n k : ℕ) (boot : ScriptBoot) (xs ys : List Call) (c : Call)
+    → lane_calls n (lanes_of boot.segments) ≡ xs ++ c ∷ ys → k ≡ length xs
+    → IsStepOf b boot (planned_call b n (k + 1) c)
 call_step b n k boot xs ys c whole len =
     let no : eqb (k + 1) 0 ≡ false = grind (arith, nat_tests) in
     let is : (eqb n 0 && eqb (k + 1) 0) ≡ false = ap (λ t. eqb n 0 && t) no ∙ and_false (eqb n 0) in
-    let found : call_in boot n (k + 1) ≡ Some c = ap (λ cs. nth cs (k + 1)) whole ∙ nth-seam xs ys c (k + 1) (omega (arith, len)) in
+    let found : call_in boot n (k + 1) ≡ Some c =
+    ap (λ cs. nth cs (k + 1)) whole ∙ nth-seam xs ys c (k + 1) (omega (arith, len)) in
     record { number = refl; fate = refl; event = rw (is, found) refl }
 
-call_steps : (b n k : ℕ) (boot : ScriptBoot) (xs cs ys : List Call) → lane_calls n (lanes_of boot.segments) ≡ xs ++ (cs ++ ys) → k ≡ length xs → AllByRecursion (IsStepOf b boot) (call_plan b n k cs)
+call_steps : (b n k : ℕ) (boot : ScriptBoot) (xs cs ys : List Call)
+    → lane_calls n (lanes_of boot.segments) ≡ xs ++ (cs ++ ys) → k ≡ length xs
+    → AllByRecursion (IsStepOf b boot) (call_plan b n k cs)
 call_steps b n k boot xs [] ys whole len = tt
 call_steps b n k boot xs (c ∷ cs) ys whole len = (
   call_step b n k boot xs (cs ++ ys) c whole len,
-  call_steps b n (k + 1) boot (xs ++ c ∷ []) cs ys (whole ∙ sym (append_assoc xs (c ∷ []) (cs ++ ys))) (omega (arith, len, length-append xs (c ∷ []))),
+  call_steps b n (k + 1) boot (xs ++ c ∷ []) cs ys (whole ∙ sym (append_assoc xs (c ∷ []) (cs ++ ys)))
+      (omega (arith, len, length-append xs (c ∷ []))),
 )
 
 lane_calls-own : (l : Lane) (ls : List Lane) → lane_calls l.number (l ∷ ls) ≡ l.calls ++ lane_calls l.number ls
 lane_calls-own l ls = let yes : eqb l.number l.number ≡ true = grind (arith, nat_tests) in rw yes refl
 
-block_steps : (b : ℕ) (boot : ScriptBoot) (e ls behind : List Lane) → lanes_of boot.segments ≡ e ++ (ls ++ behind) → AllByRecursion (IsStepOf b boot) (block_plan b e ls)
-block_steps b boot e [] behind whole = tt
-block_steps b boot e (l ∷ ls) behind whole =
+block_steps : (b : ℕ) (boot : ScriptBoot) (e ls later : List Lane) → lanes_of boot.segments ≡ e ++ (ls ++ later)
+    → AllByRecursion (IsStepOf b boot) (block_plan b e ls)
+block_steps b boot e [] later whole = tt
+block_steps b boot e (l ∷ ls) later whole =
     let n = l.number in
-    let calls : lane_calls n (lanes_of boot.segments) ≡ lane_calls n e ++ (l.calls ++ lane_calls n (ls ++ behind)) =
-    ap (lane_calls n) whole ∙ flat_map-append (λ (t : Lane). cond (eqb t.number n) t.calls []) e (l ∷ (ls ++ behind)) ∙ ap (λ cs. lane_calls n e ++ cs) (lane_calls-own l (ls ++ behind)) in
-    AllByRecursion-append (IsStepOf b boot) (call_plan b n (length (lane_calls n e)) l.calls) (block_plan b (e ++ l ∷ []) ls)
-    (call_steps b n (length (lane_calls n e)) boot (lane_calls n e) l.calls (lane_calls n (ls ++ behind)) calls refl)
-    (block_steps b boot (e ++ l ∷ []) ls behind (whole ∙ sym (append_assoc e (l ∷ []) (ls ++ behind))))
+    let calls : lane_calls n (lanes_of boot.segments) ≡ lane_calls n e ++ (l.calls ++ lane_calls n (ls ++ later)) =
+    ap (lane_calls n) whole ∙ flat_map-append (λ (t : Lane). cond (eqb t.number n) t.calls []) e (l ∷ (ls ++ later))
+    ∙ ap (λ cs. lane_calls n e ++ cs) (lane_calls-own l (ls ++ later)) in
+    AllByRecursion-append (IsStepOf b boot) (call_plan b n (length (lane_calls n e)) l.calls)
+    (block_plan b (e ++ l ∷ []) ls)
+    (call_steps b n (length (lane_calls n e)) boot (lane_calls n e) l.calls (lane_calls n (ls ++ later)) calls refl)
+    (block_steps b boot (e ++ l ∷ []) ls later (whole ∙ sym (append_assoc e (l ∷ []) (ls ++ later))))
 
-segment_steps : (b : ℕ) (boot : ScriptBoot) (e : List Lane) (ss : List Segment) → lanes_of boot.segments ≡ e ++ lanes_of ss → AllByRecursion (IsStepOf b boot) (segment_plan b e ss)
+segment_steps : (b : ℕ) (boot : ScriptBoot) (e : List Lane) (ss : List Segment)
+    → lanes_of boot.segments ≡ e ++ lanes_of ss → AllByRecursion (IsStepOf b boot) (segment_plan b e ss)
 segment_steps b boot e [] whole = tt
 segment_steps b boot e (s ∷ ss) whole =
     AllByRecursion-append (IsStepOf b boot) (block_plan b e s.lanes) (segment_plan b (e ++ s.lanes) ss)
@@ -143,17 +160,26 @@ pub record IsStepIn (script : Script) (p : Planned) : Type 0 where
   pub fate : p.row.fate ≡ Answered
   pub event : event_at script p.row ≡ Some p.event
 
-step_in : (script : Script) (b : ℕ) (boot : ScriptBoot) → nth script.boots b ≡ Some boot → (p : Planned) → IsStepOf b boot p → IsStepIn script p
+step_in : (script : Script) (b : ℕ) (boot : ScriptBoot) → nth script.boots b ≡ Some boot → (p : Planned)
+    → IsStepOf b boot p → IsStepIn script p
 step_in script b boot found p s =
-    record { fate = s.fate; event = ap (λ k. option_and_then (λ (sb : ScriptBoot). event_in sb p.row) (nth script.boots k)) s.number ∙ ap (option_and_then (λ (sb : ScriptBoot). event_in sb p.row)) found ∙ s.event }
+    record {
+      fate = s.fate;
+      event = ap (λ k. option_and_then (λ (sb : ScriptBoot). event_in sb p.row) (nth script.boots k)) s.number
+          ∙ ap (option_and_then (λ (sb : ScriptBoot). event_in sb p.row)) found ∙ s.event;
+    }
 
-steps_in : (script : Script) (k : ℕ) (earlier bs : List ScriptBoot) → script.boots ≡ earlier ++ bs → k ≡ length earlier → AllByRecursion (IsStepIn script) (boots_plan k bs)
+steps_in : (script : Script) (k : ℕ) (earlier bs : List ScriptBoot) → script.boots ≡ earlier ++ bs → k ≡ length earlier
+    → AllByRecursion (IsStepIn script) (boots_plan k bs)
 steps_in script k earlier [] whole len = tt
 steps_in script k earlier (b ∷ bs) whole len =
-    let found : nth script.boots (k + 1) ≡ Some b = ap (λ xs. nth xs (k + 1)) whole ∙ nth-seam earlier bs b (k + 1) (omega (arith, len)) in
+    let found : nth script.boots (k + 1) ≡ Some b =
+    ap (λ xs. nth xs (k + 1)) whole ∙ nth-seam earlier bs b (k + 1) (omega (arith, len)) in
     AllByRecursion-append (IsStepIn script) (boot_plan (k + 1) b) (boots_plan (k + 1) bs)
-    (AllByRecursion-weaker (IsStepOf (k + 1) b) (IsStepIn script) (step_in script (k + 1) b found) (boot_plan (k + 1) b) (boot_steps (k + 1) b))
-    (steps_in script (k + 1) (earlier ++ b ∷ []) bs (whole ∙ sym (append_assoc earlier (b ∷ []) bs)) (omega (arith, len, length-append earlier (b ∷ []))))
+    (AllByRecursion-weaker (IsStepOf (k + 1) b) (IsStepIn script) (step_in script (k + 1) b found) (boot_plan (k + 1) b)
+    (boot_steps (k + 1) b))
+    (steps_in script (k + 1) (earlier ++ b ∷ []) bs (whole ∙ sym (append_assoc earlier (b ∷ []) bs))
+    (omega (arith, len, length-append earlier (b ∷ []))))
 
 plan_steps : (script : Script) → AllByRecursion (IsStepIn script) (boots_plan 0 script.boots)
 plan_steps script = steps_in script 0 [] script.boots refl refl
@@ -164,13 +190,16 @@ turn-step : (script : Script) (w : World) (p : Planned) → IsStepIn script p �
 unfolding turn
 turn-step script w p s = ap (λ f. turned_at w f (event_at script p.row)) s.fate ∙ ap (turned_at w Answered) s.event
 
-lines_from-plan : (script : Script) (w : World) (plan : List Planned) → AllByRecursion (IsStepIn script) plan → lines_from script w (rows_of plan) ≡ plan_lines w plan
+lines_from-plan : (script : Script) (w : World) (plan : List Planned) → AllByRecursion (IsStepIn script) plan
+    → lines_from script w (rows_of plan) ≡ plan_lines w plan
 lines_from-plan script w [] a = refl
 lines_from-plan script w (p ∷ ps) a =
     ap (λ (t : Turned). turn_lines p.row t.shown ++ lines_from script t.world (rows_of ps)) (turn-step script w p a.0)
-    ∙ ap (λ text. turn_lines p.row (turned_by w p.event).shown ++ text) (lines_from-plan script (turned_by w p.event).world ps a.1)
+    ∙ ap (λ text. turn_lines p.row (turned_by w p.event).shown ++ text)
+    (lines_from-plan script (turned_by w p.event).world ps a.1)
 
-answered_rows : (script : Script) (plan : List Planned) → AllByRecursion (IsStepIn script) plan → AllByRecursion (λ (row : TurnRow). row.fate ≡ Answered) (rows_of plan)
+answered_rows : (script : Script) (plan : List Planned) → AllByRecursion (IsStepIn script) plan
+    → AllByRecursion (λ (row : TurnRow). row.fate ≡ Answered) (rows_of plan)
 answered_rows script [] a = tt
 answered_rows script (p ∷ ps) a = (a.0.fate, answered_rows script ps a.1)
 
@@ -186,13 +215,16 @@ pub record PlanFront (script : Script) (front : List Planned) : Type 0 where
   pub answered : All (λ (row : TurnRow). row.fate ≡ Answered) (rows_of front)
   pub text : lines_from script (empty_world script.scale) (rows_of front) ≡ plan_lines (empty_world script.scale) front
 
-pub plan_front : (script : Script) (front rest : List Planned) → boots_plan 0 script.boots ≡ front ++ rest → PlanFront script front
+pub plan_front : (script : Script) (front rest : List Planned) → boots_plan 0 script.boots ≡ front ++ rest
+    → PlanFront script front
 plan_front script front rest split =
-    let all : AllByRecursion (IsStepIn script) (front ++ rest) = subst (AllByRecursion (IsStepIn script)) split (plan_steps script) in
+    let all : AllByRecursion (IsStepIn script) (front ++ rest) =
+    subst (AllByRecursion (IsStepIn script)) split (plan_steps script) in
     let steps = AllByRecursion-front (IsStepIn script) front rest all in
     let answered = answered_rows script front steps in
     let whole : positions script ≡ map position_of (rows_of front) ++ places rest =
-    sym (plan_places script) ∙ places-rows (boots_plan 0 script.boots) ∙ ap places split ∙ places-append front rest ∙ ap (λ ps. ps ++ places rest) (sym (places-rows front)) in
+    sym (plan_places script) ∙ places-rows (boots_plan 0 script.boots) ∙ ap places split ∙ places-append front rest
+    ∙ ap (λ ps. ps ++ places rest) (sym (places-rows front)) in
     record {
       steps = steps;
       order = in_order script (rows_of front) answered (places rest, whole);
@@ -202,4 +234,6 @@ plan_front script front rest split =
 
 -- the turns of the whole plan are all of the script's
 pub plan_fits : (script : Script) → Fits script (rows_of (boots_plan 0 script.boots))
-plan_fits script = fits script (rows_of (boots_plan 0 script.boots)) (answered_rows script (boots_plan 0 script.boots) (plan_steps script)) (plan_places script)
+plan_fits script =
+    fits script (rows_of (boots_plan 0 script.boots))
+    (answered_rows script (boots_plan 0 script.boots) (plan_steps script)) (plan_places script)

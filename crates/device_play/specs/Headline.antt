@@ -34,7 +34,7 @@ HasNoScript None why = ⊥
 HasNoScript (Some bytes) why = script_of bytes ≡ Err why
 
 -- where the bytes are no script, the status says so with their first bad line, unless the words are no command,
--- the source failed or memory was wanting
+-- the source failed or memory ran out
 abbrev pub IsRefused : Status → ScriptWhy → Type 0
 IsRefused status.Done why = ⊥
 IsRefused status.Usage why = Unit {0}

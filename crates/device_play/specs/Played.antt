@@ -7,7 +7,7 @@ use Rattle.apex_world.specs.declared.turns.TurnRow.{TurnRow}
 use Rattle.apex_world.specs.declared.turns.Fate.TheVariants.{Answered}
 use Rattle.apex_world.specs.Text.{out}
 use Rattle.apex_world.specs.Turns.{Fits, IsInOrder}
-use Rattle.device_play.specs.declared.put.PutFailed.{PutFailed}
+use Rattle.play_text.specs.declared.put.PutFailed.{PutFailed}
 
 -- all turns and the whole text
 pub record PlayedWhole (script : Script) (held held' : Option (List ℕ)) (turns : List TurnRow) : Type 0 where
@@ -22,6 +22,7 @@ pub record PlayedFront (script : Script) (held held' : Option (List ℕ)) (turns
   pub answered : All (λ (row : TurnRow). row.fate ≡ Answered) turns
   pub put : PutFront held held' (out script turns)
 
-abbrev pub HasPlayed : {T : Type 0} → Result T PutFailed → Script → Option (List ℕ) → Option (List ℕ) → List TurnRow → Type 0
+abbrev pub HasPlayed : {T : Type 0} → Result T PutFailed → Script → Option (List ℕ) → Option (List ℕ) → List TurnRow
+    → Type 0
 HasPlayed (Ok x) script held held' turns = PlayedWhole script held held' turns
 HasPlayed (Err e) script held held' turns = PlayedFront script held held' turns

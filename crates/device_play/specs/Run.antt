@@ -11,7 +11,7 @@ use Rattle.apex_world.specs.World.{World}
 use Rattle.apex_world.specs.Fold.{Event, BootOf, CallOf, turned_by}
 use Rattle.apex_world.specs.Text.{turn_lines}
 use Rattle.apex_world.specs.Turns.{lane_calls}
-use Rattle.device_play.specs.declared.put.PutFailed.{PutFailed}
+use Rattle.play_text.specs.declared.put.PutFailed.{PutFailed}
 
 -- a turn that is to come, with what the script says there
 pub record Planned : Type 0 where
@@ -27,17 +27,18 @@ planned_boot boot b = record { row = answered boot 0 0; event = BootOf b }
 abbrev pub planned_call : ℕ → ℕ → ℕ → Call → Planned
 planned_call boot lane step call = record { row = answered boot lane step; event = CallOf call }
 
--- calls of a lane, behind its first k
+-- calls of a lane, after its first k
 abbrev pub call_plan : ℕ → ℕ → ℕ → List Call → List Planned
 call_plan boot lane k [] = []
 call_plan boot lane k (c ∷ cs) = planned_call boot lane (k + 1) c ∷ call_plan boot lane (k + 1) cs
 
--- lane blocks, one behind the other, behind earlier blocks of the boot
+-- lane blocks, one after the other, after earlier blocks of the boot
 abbrev pub block_plan : ℕ → List Lane → List Lane → List Planned
 block_plan boot earlier [] = []
-block_plan boot earlier (b ∷ bs) = call_plan boot b.number (length (lane_calls b.number earlier)) b.calls ++ block_plan boot (earlier ++ b ∷ []) bs
+block_plan boot earlier (b ∷ bs) =
+    call_plan boot b.number (length (lane_calls b.number earlier)) b.calls ++ block_plan boot (earlier ++ b ∷ []) bs
 
--- segments, behind earlier blocks of the boot
+-- segments, after earlier blocks of the boot
 abbrev pub segment_plan : ℕ → List Lane → List Segment → List Planned
 segment_plan boot earlier [] = []
 segment_plan boot earlier (s ∷ ss) = block_plan boot earlier s.lanes ++ segment_plan boot (earlier ++ s.lanes) ss

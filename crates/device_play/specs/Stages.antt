@@ -1,15 +1,21 @@
 -- Where a run in the code stands.
-use Rattle.std.specs.Prelude.{◌≡◌, ◌≤◌, ℕ, List, take, length, flat_map, get_or, Option}
+use Rattle.std.specs.Prelude.{◌≡◌, ◌≤◌, ℕ, List, take, length, flat_map, get_or, Option, Result}
 use Rattle.apex_world.specs.declared.script.Lane.{Lane}
 use Rattle.apex_world.specs.declared.script.Segment.{Segment}
 use Rattle.apex_world.specs.declared.script.ScriptBoot.{ScriptBoot}
 use Rattle.apex_world.specs.Turns.{lane_calls}
-use Rattle.device_play.specs.declared.turns.Run.{Run}
-use Rattle.device_play.specs.Plain.{world_of}
-use Rattle.device_play.specs.Run.{Stage}
+use Rattle.device_play.specs.declared.run.Run.{Run}
+use Rattle.plain_world.specs.Plain.{world_of}
+use Rattle.play_text.specs.declared.put.PutFailed.{PutFailed}
+use Rattle.device_play.specs.Run.{Planned, Stage, Ran}
 
 abbrev pub stage_of : Run → Option (List ℕ) → Stage
 stage_of run held = record { world = world_of run.world; held = held; turns = run.turns.items }
+
+-- what a call that plays steps makes of a run and its sink
+abbrev pub Plays : {S T : Type 0} → (S → Option (List ℕ)) → List Planned → Result T PutFailed → Run → S → Run → S
+    → Type 0
+Plays held plan result old sink new sink' = Ran result plan (stage_of old (held sink)) (stage_of new (held sink'))
 
 -- the lane blocks before the segment at a place
 abbrev pub blocks_before : ScriptBoot → ℕ → List Lane

@@ -1,21 +1,12 @@
 //! The top call: a script is played, and its text is written.
 #![tactic(auto)]
 
-mod faults;
-mod kept;
 mod laws;
-mod limits;
-mod lines;
-mod mark;
 mod mounts;
-mod plain;
 mod play;
-mod put;
-mod select;
-mod sessions;
+mod run;
 mod source;
 mod status;
-mod submit;
 mod turns;
 
 pub use apex_world::{Fate, TurnRow, Turns};
@@ -27,12 +18,4 @@ pub use play::{Played, apex_play};
 pub use status::Status;
 
 #[cfg(test)]
-mod listing_tests;
-#[cfg(test)]
-mod module_tests;
-#[cfg(test)]
-mod order_tests;
-#[cfg(test)]
 mod tests;
-#[cfg(test)]
-mod world_tests;

@@ -1,5 +1,5 @@
-//! The top call. The commit point is `enter_turn` in `turns`: a turn enters the history right after it happened and
-//! before its first line is put, so that what a failing sink holds is a front of the text of the turns that are told.
+//! The top call. The commit point is `enter_turn` in `run`: a turn enters the history right after it happened and
+//! before its first line is put, so that what a failing sink holds is a front of the text of the turns that are returned.
 ghost use Rattle.std.specs.Prelude.{◌≡◌, [], ◌↔◌, IsTrue};
 ghost use Rattle.std.specs.List.{All};
 ghost use Rattle.apex_base.specs.Causes.{Rose};
@@ -11,13 +11,13 @@ ghost use Rattle.device_script.specs.declared.fault.ScriptWhy.{ScriptWhy};
 ghost use Rattle.device_play.specs.Headline.{Plays, HasScript, HasNoScript, IsRefused, HasBadLine, IsSilent};
 ghost use Rattle.device_play.specs.Source.{Ended, TakesAtMost};
 
-use crate::put::PutFailed;
+use crate::run::Run;
 use crate::source::{ReadFailed, read_all};
 use crate::status::Status;
-use crate::turns::Run;
 use apex_base::{Gate, Listed, Sink, Source};
 use apex_world::{Fate, Turns};
 use device_script::{LineFault, ScriptWhy, read_script};
+use play_text::PutFailed;
 use std::alloc::Global;
 
 /// How a run ended, and its turns.
@@ -70,7 +70,7 @@ pub fn apex_play<S: Source, K: Sink, G: Gate>(
         PutAll (K.held sink.old) (K.held sink.new) (out script result.turns) }
     ensures emptied { result.status ≡ Status.Done → Ended (S.left source.old) (S.left source.new) }
 
-    // The turns are the first of the script's, the lanes of a segment one behind the other, and all of them at Done.
+    // The turns are the first of the script's, the lanes of a segment one after the other, and all of them at Done.
     ensures turns { (script : Script) → HasScript (S.left source.old) script → IsInOrder script result.turns }
     ensures all_turns { (script : Script) → HasScript (S.left source.old) script → result.status ≡ Status.Done →
         Fits script result.turns }
@@ -84,7 +84,7 @@ pub fn apex_play<S: Source, K: Sink, G: Gate>(
     ensures no_script { (why : ScriptWhy) → HasNoScript (S.left source.old) why → PutAll (K.held sink.old) (K.held sink.new) [] }
     ensures no_turns { (why : ScriptWhy) → HasNoScript (S.left source.old) why → result.turns ≡ [] }
 
-    // Each status has its cause; want of memory alone is free.
+    // Each status has its cause, but for Memory, which may come at any time.
     ensures usage { (result.status ≡ Status.Usage) ↔ (¬ (Plays words.now)) }
     ensures bad_line { HasBadLine (S.left source.old) result.status }
     ensures refused { (why : ScriptWhy) → HasNoScript (S.left source.old) why → IsRefused result.status why }

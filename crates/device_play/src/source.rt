@@ -20,7 +20,7 @@ pub enum ReadFailed {
     NoMemory,
 }
 
-/// Reads a piece of at most so many bytes behind a text, and says whether there was one.
+/// Reads a piece of at most so many bytes to the end of a text, and says whether there was one.
 fn read_piece<S: Source>(
     source: &mut S,
     buffer: &mut [u8],

@@ -14,7 +14,7 @@ pub enum Status {
     SourceFault,
     /// The sink failed. It holds a front of the text.
     SinkFault,
-    /// Memory was wanting.
+    /// Memory ran out.
     Memory,
 }
 

@@ -14,4 +14,5 @@ none_spelled digits bad = by_answer (decode_of digits) refl
   where
     by_answer : (read : Result (List ℕ) FromHexError) → decode_of digits ≡ read → result_ok read ≡ None
     by_answer (Err e) is = refl
-    by_answer (Ok bytes) is = absurd (false≢true (sym bad ∙ list_all-from_AllPass is_hex_digit digits (decode_of-ok digits bytes is).1))
+    by_answer (Ok bytes) is =
+        absurd (false≢true (sym bad ∙ list_all-from_AllPass is_hex_digit digits (decode_of-ok digits bytes is).1))

@@ -24,7 +24,8 @@ has_room m path content = is_none (put_fault m path content)
 -- a file is written or replaced
 abbrev pub file_put : Block → List ℕ → List ℕ → Result Block LineFault
 file_put block path content =
-    if has_room block.content path content then Ok (record block { content = fin.insert block.content path content }) else Err Full
+    if has_room block.content path content then Ok (record block { content = fin.insert block.content path content })
+    else Err Full
 
 -- a file is removed, if there is one
 abbrev pub file_removed : Block → List ℕ → Block

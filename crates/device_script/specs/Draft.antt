@@ -1,5 +1,6 @@
 -- What the lines so far have made, and where the next one may stand: docs/formats/script.md, "Lines".
-use Rattle.std.specs.Prelude.{ℕ, Bool, true, false, is_some, is_none, List, [], ◌∷◌, ◌++◌, option_to_list, codes, Option, Some, None, Result, Ok, Err, if◌then◌else◌}
+use Rattle.std.specs.Prelude.{ℕ, Bool, true, false, is_some, is_none, List, [], ◌∷◌, ◌++◌, option_to_list, codes}
+use Rattle.std.specs.Prelude.{Option, Some, None, Result, Ok, Err, if◌then◌else◌}
 use Rattle.std.specs.Str.{bytes_eq}
 use Rattle.std.specs.FinMap as fin
 use Rattle.apex_base.specs.declared.numbers.Scale.{Scale}
@@ -22,8 +23,9 @@ use Rattle.device_script.specs.declared.keyword.Keyword.{Keyword}
 use Rattle.device_script.specs.declared.keyword.Keyword.TheVariants as keyword
 use Rattle.device_script.specs.declared.words.PartWord.{PartWord}
 use Rattle.device_script.specs.Blocks.{begun, file_put, file_removed, listing_put}
-use Rattle.device_script.specs.Images.{module_named, package_of, image_with}
-use Rattle.device_script.specs.Lines.{scale_words, print_words, part_words, boot_words, submit_words, id_words, success_words, label_words, file_words, text_said, path_words, bare_words}
+use Rattle.device_script.specs.Images.{module_named, with_manifest, image_with}
+use Rattle.device_script.specs.Lines.{scale_words, print_words, part_words, boot_words, submit_words, id_words}
+use Rattle.device_script.specs.Lines.{success_words, label_words, file_words, text_said, path_words, bare_words}
 use Rattle.device_script.specs.Words.{words_of}
 
 -- before the first line
@@ -37,24 +39,12 @@ abbrev pub asks_rollback : List (List ℕ) → Bool
 asks_rollback (id ∷ kind ∷ others) = bytes_eq kind (codes "rollback")
 asks_rollback _ = false
 
--- a line of a later table, a second image, or a rollback; of each line it is known what stands after its first word
+-- a line of a later table, a second image, or a rollback; the rest of a line is what comes after its first word
 abbrev pub is_not_yet : Draft → Keyword → List ℕ → Bool
 is_not_yet d keyword.Later rest = true
 is_not_yet d keyword.Image rest = is_some d.image
 is_not_yet d keyword.Submit rest = asks_rollback (words_of rest)
-is_not_yet d keyword.Scale rest = false
-is_not_yet d keyword.Pre rest = false
-is_not_yet d keyword.Boot rest = false
-is_not_yet d keyword.Ready rest = false
-is_not_yet d keyword.Abort rest = false
-is_not_yet d keyword.Success rest = false
-is_not_yet d keyword.State rest = false
-is_not_yet d keyword.Module rest = false
-is_not_yet d keyword.File rest = false
-is_not_yet d keyword.Text rest = false
-is_not_yet d keyword.Remove rest = false
-is_not_yet d keyword.Seal rest = false
-is_not_yet d keyword.Done rest = false
+is_not_yet _ _ _ = false
 
 -- Where a line may stand
 
@@ -65,17 +55,7 @@ is_of_blocks keyword.Text = true
 is_of_blocks keyword.Remove = true
 is_of_blocks keyword.Seal = true
 is_of_blocks keyword.Done = true
-is_of_blocks keyword.Scale = false
-is_of_blocks keyword.Image = false
-is_of_blocks keyword.Pre = false
-is_of_blocks keyword.Boot = false
-is_of_blocks keyword.Submit = false
-is_of_blocks keyword.Ready = false
-is_of_blocks keyword.Abort = false
-is_of_blocks keyword.Success = false
-is_of_blocks keyword.State = false
-is_of_blocks keyword.Module = false
-is_of_blocks keyword.Later = false
+is_of_blocks _ = false
 
 -- scale first and once; images and blocks after it; modules and boots after an image; calls after a boot
 abbrev pub may_stand_outside : Draft → Keyword → Bool
@@ -90,11 +70,7 @@ may_stand_outside d keyword.Ready = is_some d.current
 may_stand_outside d keyword.Abort = is_some d.current
 may_stand_outside d keyword.Success = is_some d.current
 may_stand_outside d keyword.State = is_some d.current
-may_stand_outside d keyword.File = false
-may_stand_outside d keyword.Text = false
-may_stand_outside d keyword.Remove = false
-may_stand_outside d keyword.Seal = false
-may_stand_outside d keyword.Done = false
+may_stand_outside _ _ = false
 
 -- in a block only its own lines may stand
 abbrev pub may_stand : Draft → Keyword → Bool
@@ -111,13 +87,13 @@ scale_taken d scale (Some before) = Err BadPlace
 abbrev pub image_taken : Draft → List ℕ → Result Draft LineFault
 image_taken d print = Ok (record d { image = Some (record { print = print; modules = [] }) })
 
--- a module more in the last image
+-- one more module in the last image
 unfoldable pub pre_taken : Draft → PartWord → Option Scale → Option Image → Result Draft LineFault
 pre_taken d part None image = Err BadPlace
 pre_taken d part (Some scale) None = Err BadPlace
 pre_taken d part (Some scale) (Some image) = do
   m ← module_named d.labels 2 part
-  added ← package_of m
+  added ← with_manifest m
   image ← image_with scale image added
   Ok (record d { image = Some image })
 
@@ -143,7 +119,8 @@ boot_taken d time workers (Some scale) (Some image) = Ok (record d {
 -- a segment after the last boot
 abbrev pub segment_taken : Draft → Segment → Option ScriptBoot → Result Draft LineFault
 segment_taken d segment None = Err BadPlace
-segment_taken d segment (Some boot) = Ok (record d { current = Some (record boot { segments = boot.segments ++ segment ∷ [] }) })
+segment_taken d segment (Some boot) =
+    Ok (record d { current = Some (record boot { segments = boot.segments ++ segment ∷ [] }) })
 
 -- a call outside lane blocks
 abbrev pub call_taken : Draft → Call → Result Draft LineFault
@@ -177,7 +154,7 @@ abbrev pub done_taken : Draft → Option Block → Result Draft LineFault
 done_taken d None = Err BadPlace
 done_taken d (Some block) = Ok (record d { labels = fin.insert d.labels block.label block.content; block = None })
 
--- what stands after the first word of a `pre`, a `submit`, a `file` and a `text` line is read, and then taken
+-- the rest of a `pre`, a `submit`, a `file` and a `text` line is read, and then taken
 
 abbrev pub pre_read : Draft → List ℕ → Result Draft LineFault
 pre_read d rest = part_words (words_of rest) >>= λ part. pre_taken d part d.scale d.image
@@ -191,7 +168,7 @@ file_read d rest = file_words (words_of rest) >>= λ said. file_taken d said.0 s
 abbrev pub text_read : Draft → List ℕ → Result Draft LineFault
 text_read d rest = text_said rest >>= λ said. file_taken d said.0 said.1 d.block
 
--- a draft with a line more, which is line n
+-- a draft with one more line, which is line n
 unfoldable pub taken : Draft → ℕ → Keyword → List ℕ → Result Draft LineFault
 taken d n keyword.Scale rest = scale_words (words_of rest) >>= λ scale. scale_taken d scale d.scale
 taken d n keyword.Image rest = print_words (words_of rest) >>= image_taken d
@@ -210,7 +187,7 @@ taken d n keyword.Seal rest = bare_words (words_of rest) >>= λ _. seal_taken d 
 taken d n keyword.Done rest = bare_words (words_of rest) >>= λ _. done_taken d d.block
 taken d n keyword.Later rest = Err NotYet
 
--- the script that the lines make, where there are no more and no block is open
+-- the script that the lines make, if there are no more and no block is open
 abbrev pub finished_at : Draft → Option Scale → Option Block → Result Script ScriptWhy
 finished_at d None block = Err (Bad 1 Unended)
 finished_at d (Some scale) None = Ok (record { scale = scale; boots = closed d })

@@ -1,4 +1,4 @@
--- Parts, and images with a module more: docs/formats/script.md, "Lines".
+-- Parts, and images with one more module: docs/formats/script.md, "Lines".
 use Rattle.std.specs.Prelude.{ℕ, Bool, nat_lt, List, [], ◌∷◌, ◌++◌, length, Result, Ok, Err, ok_or, if◌then◌else◌}
 use Rattle.std.specs.List.{list_any}
 use Rattle.std.specs.Str.{bytes_eq}
@@ -17,25 +17,26 @@ use Rattle.device_script.specs.declared.words.PartWord.{PartWord}
 use Rattle.device_script.specs.declared.words.PartWord.TheVariants.{Short, Label}
 use Rattle.device_script.specs.Blocks.{LabelMap}
 
--- the module that a part names in the word of a number
+-- the module that the word with this number names
 abbrev pub module_named : LabelMap → ℕ → PartWord → Result FileMap LineFault
 module_named labels word (Short name version) = Ok (short_form name version)
 module_named labels word (Label name) = ok_or (fin.get labels name) (NoLabel word)
 
-abbrev pub package_by : FileMap → Result Manifest ModuleFault → Result Package LineFault
-package_by m (Ok manifest) = Ok (record { name = manifest.name; version = manifest.version; content = m })
-package_by m (Err fault) = Err (BadModule fault)
+abbrev pub with_manifest_by : FileMap → Result Manifest ModuleFault → Result Package LineFault
+with_manifest_by m (Ok manifest) = Ok (record { name = manifest.name; version = manifest.version; content = m })
+with_manifest_by m (Err fault) = Err (BadModule fault)
 
 -- a module with what its manifest says
-abbrev pub package_of : FileMap → Result Package LineFault
-package_of m = package_by m (manifest_in m)
+abbrev pub with_manifest : FileMap → Result Package LineFault
+with_manifest m = with_manifest_by m (manifest_in m)
 
 abbrev pub has_module : List Package → List ℕ → Bool
 has_module modules name = list_any (λ m. bytes_eq m.name name) modules
 
--- an image with a module more
+-- an image with one more module
 abbrev pub image_with : Scale → Image → Package → Result Image LineFault
 image_with scale image m =
     if has_module image.modules m.name then Err Twice
-    else (if nat_lt (length image.modules) (scale_modules scale) then Ok (record image { modules = image.modules ++ m ∷ [] })
+    else (if nat_lt (length image.modules) (scale_modules scale)
+    then Ok (record image { modules = image.modules ++ m ∷ [] })
     else Err Full)

@@ -4,5 +4,4 @@ pub mod Images
 pub mod Keywords
 pub mod Lines
 pub mod Script
-pub mod Taking
 pub mod Words

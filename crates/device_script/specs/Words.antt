@@ -1,5 +1,7 @@
 -- The words of a line, and what single words say: docs/formats/script.md, "Words".
-use Rattle.std.specs.Prelude.{ℕ, ◌+◌, ◌-◌, ◌*◌, ◌&&◌, ◌==◌, Bool, not, nat_le, nat_lt, List, [], ◌∷◌, length, take, drop, filter, fold, codes, Option, Some, None, position, option_and_then, option_map, slice_index, if◌then◌else◌}
+use Rattle.std.specs.Prelude.{ℕ, ◌+◌, ◌-◌, ◌*◌, ◌&&◌, ◌==◌, Bool, not, nat_le, nat_lt, List, [], ◌∷◌, length, take}
+use Rattle.std.specs.Prelude.{drop, filter, fold, codes, Option, Some, None, position, option_and_then, option_map}
+use Rattle.std.specs.Prelude.{slice_index, if◌then◌else◌}
 use Rattle.std.specs.List.{list_all, slice_split}
 use Rattle.std.specs.Result.{result_ok}
 use Rattle.std.specs.Str.{bytes_eq}
@@ -12,7 +14,7 @@ use Rattle.apex_base.specs.Numbers.{version_of, millis_of}
 use Rattle.device_script.specs.declared.words.PartWord.{PartWord}
 use Rattle.device_script.specs.declared.words.PartWord.TheVariants.{Short, Label}
 
--- the words of a line, parted by spaces
+-- the words of a line, separated by spaces
 abbrev pub words_of : List ℕ → List (List ℕ)
 words_of line = filter (λ w. not (length w == 0)) (slice_split (λ b. b == 32) line)
 
@@ -20,11 +22,11 @@ abbrev pub cut_at : Option ℕ → List ℕ → List ℕ × List ℕ
 cut_at None bytes = (bytes, [])
 cut_at (Some i) bytes = (take i bytes, drop (i + 1) bytes)
 
--- what stands before the first space, and what stands behind it
+-- what comes before the first space, and what comes after it
 abbrev pub cut_at_space : List ℕ → List ℕ × List ℕ
 cut_at_space bytes = cut_at (position (λ b. b == 32) bytes) bytes
 
--- the first word, and what stands behind the one space that ends it
+-- the first word, and what comes after the one space that ends it
 abbrev pub cut_word : List ℕ → Option (List ℕ × List ℕ)
 cut_word [] = None
 cut_word (b ∷ bs) = if b == 32 then cut_word bs else Some (cut_at_space (b ∷ bs))
@@ -33,23 +35,27 @@ abbrev pub is_digit : ℕ → Bool
 is_digit b = nat_le 48 b && nat_le b 57
 
 -- the number that digits spell
-abbrev pub value_of : List ℕ → ℕ
-value_of digits = fold (λ n d. 10 * n + (d - 48)) 0 digits
+abbrev pub decimal_value : List ℕ → ℕ
+decimal_value digits = fold (λ n d. 10 * n + (d - 48)) 0 digits
 
--- digits without a leading zero, but 0 itself
+-- digits without a leading zero, except for 0 itself
 abbrev pub is_number : List ℕ → Bool
-is_number digits = not (length digits == 0) && not (nat_lt 1 (length digits) && (slice_index digits 0 == 48)) && list_all is_digit digits
+is_number digits = not (length digits == 0) && not (nat_lt 1 (length digits) && (slice_index digits 0 == 48))
+    && list_all is_digit digits
 
--- the number that the bytes spell, where it is at most so large
+-- the number that the bytes spell, if it is at most this large
 unfoldable pub number_of : ℕ → List ℕ → Option ℕ
-number_of most digits = if is_number digits && nat_le (value_of digits) most then Some (value_of digits) else None
+number_of most digits =
+    if is_number digits && nat_le (decimal_value digits) most then Some (decimal_value digits) else None
 
 abbrev pub scale_of : List ℕ → Option Scale
-scale_of word = if bytes_eq word (codes "small") then Some Small else (if bytes_eq word (codes "standard") then Some Standard else None)
+scale_of word =
+    if bytes_eq word (codes "small") then Some Small
+    else (if bytes_eq word (codes "standard") then Some Standard else None)
 
 -- a session's id
 abbrev pub id_of : List ℕ → Option SessionId
-id_of word = option_and_then (λ n. Some (record { 0 = n })) (number_of 4294967295 word)
+id_of word = option_map (λ n. record { 0 = n }) (number_of 4294967295 word)
 
 abbrev pub time_of : List ℕ → Option ℕ
 time_of word = option_and_then millis_of (number_of 9007199254740991 word)

@@ -1,7 +1,7 @@
-//! A module block that is being read. Where its lines may stand is the business of `draft`.
+//! A module block that is being read. `draft` decides where its lines may stand.
 ghost use Rattle.std.specs.Prelude.{◌≡◌};
 ghost use Rattle.device_script.specs.Blocks.{begun, file_put, file_removed, listing_put};
-ghost use Rattle.device_script.specs.Taking.{Takes};
+ghost use Rattle.apex_base.specs.Answers.{Becomes};
 
 use crate::fault::{LineError, LineFault};
 use apex_base::{Bytes, FilePath, Module, Name, PutWhy};
@@ -17,7 +17,7 @@ pub struct Block {
 }
 
 impl Block {
-    /// The block that a line of that number begins.
+    /// The block that the line with this number begins.
     pub fn begin(alloc: Global, line: u32, label: Name) -> Self
         ensures { result ≡ begun line label }
     {
@@ -28,9 +28,9 @@ impl Block {
         }
     }
 
-    /// Writes a file, or replaces it.
+    /// Writes a file, or replaces it. The fault is `Full` if the module has no room for it.
     pub fn put(&mut self, path: FilePath, content: Bytes) -> Result<(), LineError>
-        ensures { Takes result self.new (file_put self.old path content) }
+        ensures { Becomes result self.new (file_put self.old path content) }
     {
         match self.content.put(path, content.into_vec()) {
             Ok(()) => Ok(()),
@@ -46,9 +46,9 @@ impl Block {
         self.content.remove(path);
     }
 
-    /// Writes or replaces the listing, which is never too long.
+    /// Writes or replaces the listing, which is never too long. The fault is `Full` if 64 other files are there.
     pub fn seal(&mut self, alloc: Global) -> Result<(), LineError>
-        ensures { Takes result self.new (listing_put self.old) }
+        ensures { Becomes result self.new (listing_put self.old) }
     {
         match seal(alloc, &mut self.content) {
             Ok(()) => Ok(()),

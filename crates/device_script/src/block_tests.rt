@@ -1,11 +1,10 @@
-//! Module blocks, worked out by hand from `docs/formats/script.md`.
-use crate::fault::{LineError, LineFault};
+//! What the lines of module blocks make, worked out by hand from `docs/formats/script.md`.
+use crate::fault::LineError;
 use crate::keyword::Keyword;
 use crate::line::{file_words, text_said};
 use crate::read_script;
-use crate::tests::{FOUR_LINES, bad, boot_text, why};
+use crate::tests::boot_text;
 use crate::words::cut_word;
-use apex_base::{Boxed, ModuleFault};
 use std::alloc::Global;
 use std::test::Fail;
 
@@ -26,13 +25,8 @@ fn file_text(alloc: Global, keyword: Keyword, line: &str) -> Result<String, Fail
     }
 }
 
-/// A script of lines in a block of the label m, which begins with line 2.
-fn in_block(alloc: Global, lines: &str) -> Result<String, Fail> {
-    Ok(format!(in alloc; "scale small\nmodule m\n{lines}")?)
-}
-
 #[test]
-fn a_text_line_keeps_what_stands_behind_its_path(rt: HostRuntime) -> Result<(), Fail> {
+fn a_text_line_keeps_what_stands_after_its_path(rt: HostRuntime) -> Result<(), Fail> {
     let table = [
         ("text a x", "a [120]"),
         ("text a  x y ", "a [32, 120, 32, 121, 32]"),
@@ -75,47 +69,6 @@ fn a_file_line_has_its_content_in_hexadecimal(rt: HostRuntime) -> Result<(), Fai
             told,
             "at {line:?}"
         );
-    }
-    Ok(())
-}
-
-#[test]
-fn a_fault_in_a_block_is_told_of_its_line(rt: HostRuntime) -> Result<(), Fail> {
-    let table = [
-        ("", 2, LineFault::Unended),
-        ("\n# file\nfile a -\n", 2, LineFault::Unended),
-        ("done\nmodule n\ndone\nmodule m\n", 6, LineFault::Unended),
-        ("done\ndone", 4, LineFault::BadPlace),
-        ("module m", 3, LineFault::BadPlace),
-        ("module", 3, LineFault::BadPlace),
-        ("image P", 3, LineFault::BadPlace),
-        ("scale small", 3, LineFault::BadPlace),
-        ("pre $m", 3, LineFault::BadPlace),
-        ("boot", 3, LineFault::BadPlace),
-        ("submit 1 plain $m", 3, LineFault::BadPlace),
-        ("ready x", 3, LineFault::BadPlace),
-        ("abort 1", 3, LineFault::BadPlace),
-        ("success 0 1", 3, LineFault::BadPlace),
-        ("state 1", 3, LineFault::BadPlace),
-        ("mount", 3, LineFault::NotYet),
-        ("submit 1 rollback a@1", 3, LineFault::NotYet),
-        ("other", 3, LineFault::UnknownWord),
-        ("text a \t", 3, LineFault::BadByte),
-        ("remove", 3, LineFault::Words),
-        ("remove a b", 3, LineFault::Words),
-        ("remove a/", 3, LineFault::BadWord { word: 2 }),
-        ("seal a", 3, LineFault::Words),
-        ("done m", 3, LineFault::Words),
-        (
-            "remove a\nfile a 0\nfile b 1",
-            4,
-            LineFault::BadWord { word: 3 },
-        ),
-    ];
-    for (lines, line, fault) in table {
-        let script = in_block(rt.alloc(), lines)?;
-        let told = bad(line, fault);
-        assert_eq!(rt; why(rt.alloc(), script.as_bytes()), told, "at {lines:?}");
     }
     Ok(())
 }
@@ -166,7 +119,9 @@ fn files_are_replaced_and_removed(rt: HostRuntime) -> Result<(), Fail> {
         let block = format!(in rt.alloc();
             "module m\ntext apex_manifest.json {manifest}\n{lines}done\n"
         )?;
-        let script = format!(in rt.alloc(); "{FOUR_LINES}{block}submit 1 plain $m\n")?;
+        let script = format!(in rt.alloc();
+            "scale small\nimage P\npre a@1\nboot 0 1\n{block}submit 1 plain $m\n"
+        )?;
         let script = read_script(rt.alloc(), script.as_bytes())?;
         let wanted = format!(in rt.alloc(); "0 1 P a@1; 0 submit 1 false 0 {told}")?;
         let boots = script.boots.as_slice();
@@ -177,73 +132,5 @@ fn files_are_replaced_and_removed(rt: HostRuntime) -> Result<(), Fail> {
             "at {lines:?}"
         );
     }
-    Ok(())
-}
-
-#[test]
-fn a_module_is_judged_before_the_image(rt: HostRuntime) -> Result<(), Fail> {
-    let eight = "pre b@1\npre c@1\npre d@1\npre e@1\npre f@1\npre g@1\npre h@1\n";
-    let not_json = LineFault::BadModule {
-        fault: Boxed::new(rt.alloc(), ModuleFault::NotJson)?,
-    };
-    let table = [
-        // a name that the image has, and one that it lacks, at a full image
-        ("{\"name\":\"a\",\"version\":0x1}", not_json),
-        ("{\"name\":\"a\",\"version\":2}", LineFault::Twice),
-        ("{\"name\":\"i\",\"version\":2}", LineFault::Full),
-    ];
-    for (manifest, fault) in table {
-        let block = format!(in rt.alloc(); "module m\ntext apex_manifest.json {manifest}\ndone\n")?;
-        let script = format!(in rt.alloc(); "{FOUR_LINES}{eight}{block}pre $m\n")?;
-        let told = bad(15, fault);
-        assert_eq!(rt; why(rt.alloc(), script.as_bytes()), told, "at {manifest:?}");
-    }
-    Ok(())
-}
-
-/// A block that has 64 files, f0 to f63, in lines 3 to 66.
-fn full_block(alloc: Global) -> Result<String, Fail> {
-    let mut script = in_block(alloc, "")?;
-    for i in 0..64 {
-        script.push_str(&format!(in alloc; "file f{i} -\n")?)?;
-    }
-    Ok(script)
-}
-
-#[test]
-fn a_module_has_64_files_at_most(rt: HostRuntime) -> Result<(), Fail> {
-    let full = full_block(rt.alloc())?;
-    let table = [
-        ("done", None),
-        ("file f64 -", bad(67, LineFault::Full)),
-        ("text f64", bad(67, LineFault::Full)),
-        ("seal", bad(67, LineFault::Full)),
-        ("file f63 00\ntext f0 x\nremove f64\ndone", None),
-        ("remove f5\nseal\nfile f5 -", bad(69, LineFault::Full)),
-        ("remove f5\nseal\ndone", None),
-    ];
-    for (lines, told) in table {
-        let script = format!(in rt.alloc(); "{full}{lines}\n")?;
-        assert_eq!(rt; why(rt.alloc(), script.as_bytes()), told, "at {lines:?}");
-    }
-    Ok(())
-}
-
-/// A script whose block has one file of so many spaces.
-fn long_file(alloc: Global, length: usize) -> Result<Vec<u8>, Fail> {
-    let mut script = Vec::new(alloc);
-    script.extend_from_slice(b"scale small\nmodule m\ntext a ")?;
-    script.extend_from_slice(&vec![in alloc; b' '; length]?)?;
-    script.extend_from_slice(b"\ndone\n")?;
-    Ok(script)
-}
-
-#[test]
-fn a_file_has_1048576_bytes_at_most(rt: HostRuntime) -> Result<(), Fail> {
-    let fits = long_file(rt.alloc(), 1048576)?;
-    assert_eq!(rt; why(rt.alloc(), &fits), None);
-    let long = long_file(rt.alloc(), 1048577)?;
-    let told = bad(3, LineFault::Full);
-    assert_eq!(rt; why(rt.alloc(), &long), told);
     Ok(())
 }

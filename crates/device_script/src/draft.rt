@@ -31,44 +31,12 @@ pub struct Draft {
     block: Option<Block>,
 }
 
-/// Whether the word after the id asks for a rollback.
-fn asks_rollback(rest: &[u8]) -> bool
-    ensures { result ≡ asks_rollback (words_of rest.now) }
-{
-    let Some((_, rest)) = cut_word(rest) else {
-        return false;
-    };
-    match cut_word(rest) {
-        None => false,
-        Some((kind, _)) => kind == b"rollback".as_slice(),
-    }
-}
-
-/// Whether a line of this keyword stands in module blocks alone.
-fn is_of_blocks(keyword: Keyword) -> bool
-    ensures { result ≡ is_of_blocks keyword }
-{
-    match keyword {
-        Keyword::File | Keyword::Text | Keyword::Remove | Keyword::Seal | Keyword::Done => true,
-        Keyword::Scale
-        | Keyword::Image
-        | Keyword::Pre
-        | Keyword::Boot
-        | Keyword::Submit
-        | Keyword::Ready
-        | Keyword::Abort
-        | Keyword::Success
-        | Keyword::State
-        | Keyword::Module
-        | Keyword::Later => false,
-    }
-}
-
 impl Draft {
     ghost use Rattle.std.specs.Prelude.{◌≡◌};
-    ghost use Rattle.device_script.specs.Draft.{start, is_not_yet, may_stand_outside, may_stand, pre_read, submit_read, file_read, text_read, taken, finished};
-    ghost use Rattle.device_script.specs.Script.{IsRead};
-    ghost use Rattle.device_script.specs.Taking.{Takes};
+    ghost use Rattle.device_script.specs.Draft.{start, is_not_yet, may_stand_outside, may_stand, pre_read, submit_read};
+    ghost use Rattle.device_script.specs.Draft.{file_read, text_read, taken, finished};
+    ghost use Rattle.device_script.specs.Script.{ReadsAs};
+    ghost use Rattle.apex_base.specs.Answers.{Becomes};
 
     /// Before the first line.
     pub fn start(alloc: Global) -> Self
@@ -92,19 +60,7 @@ impl Draft {
             Keyword::Later => true,
             Keyword::Image => self.image.is_some(),
             Keyword::Submit => asks_rollback(rest),
-            Keyword::Scale
-            | Keyword::Pre
-            | Keyword::Boot
-            | Keyword::Ready
-            | Keyword::Abort
-            | Keyword::Success
-            | Keyword::State
-            | Keyword::Module
-            | Keyword::File
-            | Keyword::Text
-            | Keyword::Remove
-            | Keyword::Seal
-            | Keyword::Done => false,
+            _ => false,
         }
     }
 
@@ -117,8 +73,7 @@ impl Draft {
             Keyword::Pre | Keyword::Boot => self.image.is_some(),
             Keyword::Submit | Keyword::Ready | Keyword::Abort | Keyword::Success | Keyword::State =>
                 self.current.is_some(),
-            Keyword::File | Keyword::Text | Keyword::Remove | Keyword::Seal | Keyword::Done =>
-                false,
+            _ => false,
         }
     }
 
@@ -135,7 +90,7 @@ impl Draft {
 
     #[inline(never)]
     fn read_pre(&mut self, alloc: Global, rest: &[u8]) -> Result<(), LineError>
-        ensures { Takes result self.new (pre_read self.old rest.now) }
+        ensures { Becomes result self.new (pre_read self.old rest.now) }
     {
         let part = part_words(rest)?;
         self.take_pre(alloc, &part)
@@ -143,7 +98,7 @@ impl Draft {
 
     #[inline(never)]
     fn read_submit(&mut self, alloc: Global, rest: &[u8]) -> Result<(), LineError>
-        ensures { Takes result self.new (submit_read self.old rest.now) }
+        ensures { Becomes result self.new (submit_read self.old rest.now) }
     {
         let (id, part) = submit_words(rest)?;
         self.take_submit(alloc, id, &part)
@@ -151,7 +106,7 @@ impl Draft {
 
     #[inline(never)]
     fn read_file(&mut self, alloc: Global, rest: &[u8]) -> Result<(), LineError>
-        ensures { Takes result self.new (file_read self.old rest.now) }
+        ensures { Becomes result self.new (file_read self.old rest.now) }
     {
         let (path, content) = file_words(alloc, rest)?;
         self.take_file(path, content)
@@ -159,14 +114,14 @@ impl Draft {
 
     #[inline(never)]
     fn read_text(&mut self, alloc: Global, rest: &[u8]) -> Result<(), LineError>
-        ensures { Takes result self.new (text_read self.old rest.now) }
+        ensures { Becomes result self.new (text_read self.old rest.now) }
     {
         let (path, content) = text_said(alloc, rest)?;
         self.take_file(path, content)
     }
 
-    /// Reads what stands after the first word of a line of that number, and takes it. Lines that hold much are read in
-    /// functions of their own, so that a short line doesn't pay for their room.
+    /// Reads the rest of the line with this number, after its first word, and takes it. Lines that hold much are read
+    /// in functions of their own, so that a short line doesn't pay for their room.
     #[tactic(auto, unfolding(crate::specs::Draft::taken))]
     pub fn take(
         &mut self,
@@ -175,7 +130,7 @@ impl Draft {
         keyword: Keyword,
         rest: &[u8],
     ) -> Result<(), LineError>
-        ensures { Takes result self.new (taken self.old number keyword rest.now) }
+        ensures { Becomes result self.new (taken self.old number keyword rest.now) }
     {
         match keyword {
             Keyword::Scale => {
@@ -231,9 +186,9 @@ impl Draft {
         }
     }
 
-    /// The script that the lines make, where there are no more.
+    /// The script that the lines make, if there are no more.
     pub fn finish(mut self) -> Result<Script, ScriptWhy>
-        ensures { IsRead result (finished self) }
+        ensures { ReadsAs result (finished self) }
     {
         let Some(scale) = self.scale else {
             return Err(ScriptWhy::Bad {
@@ -254,5 +209,28 @@ impl Draft {
             scale,
             boots: self.boots,
         })
+    }
+}
+
+/// Whether a line of this keyword may stand in module blocks alone.
+fn is_of_blocks(keyword: Keyword) -> bool
+    ensures { result ≡ is_of_blocks keyword }
+{
+    matches!(
+        keyword,
+        Keyword::File | Keyword::Text | Keyword::Remove | Keyword::Seal | Keyword::Done
+    )
+}
+
+/// Whether the word after the id asks for a rollback.
+fn asks_rollback(rest: &[u8]) -> bool
+    ensures { result ≡ asks_rollback (words_of rest.now) }
+{
+    let Some((_, rest)) = cut_word(rest) else {
+        return false;
+    };
+    match cut_word(rest) {
+        None => false,
+        Some((kind, _)) => kind == b"rollback".as_slice(),
     }
 }

@@ -1,18 +1,17 @@
-//! Why bytes are no script.
-use apex_base::{Boxed, ModuleFault};
-use std::alloc::{AllocError, AllocFailed};
+//! Why bytes aren't a script.
+use apex_base::{Boxed, ModuleFault, Why};
 use thiserror::Error;
 
 /// What is wrong with a line, in the order in which the checks are made.
 #[derive(Drop, Debug, PartialEq, Eq, Error)]
 pub enum LineFault {
-    /// The script has more than 16777216 bytes. It is told of line 0.
+    /// The script has more than 16777216 bytes. It is reported at line 0.
     #[error("too-long")]
     TooLong,
     /// A byte outside 0x20 to 0x7e.
     #[error("bad-byte")]
     BadByte,
-    /// The first word begins no line.
+    /// No line begins with the first word.
     #[error("unknown-word")]
     UnknownWord,
     /// A line that this version doesn't read yet.
@@ -21,10 +20,10 @@ pub enum LineFault {
     /// The line may not stand here.
     #[error("bad-place")]
     BadPlace,
-    /// The number of words isn't that of the line.
+    /// The line has too few or too many words.
     #[error("words")]
     Words,
-    /// The word of this number, from 1, is the first that isn't readable or in range.
+    /// The word of this number, counted from 1, is the first that can't be read or isn't in range.
     #[error("bad-word {word}")]
     BadWord { word: u32 },
     /// The word of this number is a label, and no block above has it.
@@ -54,41 +53,15 @@ pub enum ScriptWhy {
 }
 
 /// Why a line didn't enter a draft.
-#[derive(Drop, Debug, PartialEq, Eq)]
-pub enum LineError {
-    Fault(LineFault),
-    NoMemory,
-}
+pub type LineError = Why<LineFault>;
 
 impl From<LineFault> for LineError {
     ghost use Rattle.std.specs.Prelude.{◌≡◌};
-    ghost use Rattle.device_script.specs.declared.fault.LineError.TheVariants.{Fault};
+    ghost use Rattle.apex_base.specs.declared.why.Why.TheVariants.{Fault};
 
-    ghost from_gives = { λ fault e. e ≡ Fault fault };
+    ghost from_gives = { λ fault why. why ≡ Fault fault };
 
     fn from(fault: LineFault) -> LineError {
         LineError::Fault(fault)
-    }
-}
-
-impl<T: Drop> From<AllocFailed<T>> for LineError {
-    ghost use Rattle.std.specs.Prelude.{◌≡◌};
-    ghost use Rattle.device_script.specs.declared.fault.LineError.TheVariants.{NoMemory};
-
-    ghost from_gives = { λ _ e. e ≡ NoMemory };
-
-    fn from(_: AllocFailed<T>) -> LineError {
-        LineError::NoMemory
-    }
-}
-
-impl From<AllocError> for LineError {
-    ghost use Rattle.std.specs.Prelude.{◌≡◌};
-    ghost use Rattle.device_script.specs.declared.fault.LineError.TheVariants.{NoMemory};
-
-    ghost from_gives = { λ _ e. e ≡ NoMemory };
-
-    fn from(_: AllocError) -> LineError {
-        LineError::NoMemory
     }
 }

@@ -24,26 +24,108 @@ pub enum Keyword {
     Later,
 }
 
-#[tactic(auto, unfolding(crate::specs::Keywords::keywords))]
-fn of_three(word: &[u8]) -> Option<Keyword>
-    ensures { result ≡ look_up (of_length 3 keywords) word.now }
+/// What a line with this first word is, or None if no line begins with it. The word is compared with those of its
+/// length.
+pub fn keyword_of(word: &[u8]) -> Option<Keyword>
+    ensures { result ≡ keyword_of word.now }
 {
-    let Some(word) = word.as_array::<3>() else {
+    match word.len() {
+        3 => of_three(word),
+        4 => of_four(word),
+        5 => of_five(word),
+        6 => of_six(word),
+        7 => of_seven(word),
+        8 => of_eight(word),
+        _ => None,
+    }
+}
+
+#[tactic(auto, unfolding(crate::specs::Keywords::keywords))]
+fn of_eight(word: &[u8]) -> Option<Keyword>
+    ensures { result ≡ look_up (of_length 8 keywords) word.now }
+{
+    let Some(word) = word.as_array::<8>() else {
         return None;
     };
-    if word == b"put" {
+    if word == b"observer" {
         return Some(Keyword::Later);
     }
-    if word == b"get" {
+    None
+}
+
+#[tactic(auto, unfolding(crate::specs::Keywords::keywords))]
+fn of_seven(word: &[u8]) -> Option<Keyword>
+    ensures { result ≡ look_up (of_length 7 keywords) word.now }
+{
+    let Some(word) = word.as_array::<7>() else {
+        return None;
+    };
+    if word == b"success" {
+        return Some(Keyword::Success);
+    }
+    if word == b"nomount" {
         return Some(Keyword::Later);
     }
-    if word == b"pre" {
-        return Some(Keyword::Pre);
+    None
+}
+
+#[tactic(auto, unfolding(crate::specs::Keywords::keywords))]
+fn of_six(word: &[u8]) -> Option<Keyword>
+    ensures { result ≡ look_up (of_length 6 keywords) word.now }
+{
+    let Some(word) = word.as_array::<6>() else {
+        return None;
+    };
+    if word == b"submit" {
+        return Some(Keyword::Submit);
     }
-    if word == b"cut" {
+    if word == b"revert" {
         return Some(Keyword::Later);
     }
-    if word == b"end" {
+    if word == b"commit" {
+        return Some(Keyword::Later);
+    }
+    if word == b"report" {
+        return Some(Keyword::Later);
+    }
+    if word == b"module" {
+        return Some(Keyword::Module);
+    }
+    if word == b"remove" {
+        return Some(Keyword::Remove);
+    }
+    None
+}
+
+#[tactic(auto, unfolding(crate::specs::Keywords::keywords))]
+fn of_five(word: &[u8]) -> Option<Keyword>
+    ensures { result ≡ look_up (of_length 5 keywords) word.now }
+{
+    let Some(word) = word.as_array::<5>() else {
+        return None;
+    };
+    if word == b"ready" {
+        return Some(Keyword::Ready);
+    }
+    if word == b"abort" {
+        return Some(Keyword::Abort);
+    }
+    if word == b"state" {
+        return Some(Keyword::State);
+    }
+    if word == b"group" {
+        return Some(Keyword::Later);
+    }
+    if word == b"watch" {
+        return Some(Keyword::Later);
+    }
+    if word == b"scale" {
+        return Some(Keyword::Scale);
+    }
+    if word == b"image" {
+        return Some(Keyword::Image);
+    }
+    if word == b"mount" {
         return Some(Keyword::Later);
     }
     None
@@ -84,107 +166,26 @@ fn of_four(word: &[u8]) -> Option<Keyword>
 }
 
 #[tactic(auto, unfolding(crate::specs::Keywords::keywords))]
-fn of_five(word: &[u8]) -> Option<Keyword>
-    ensures { result ≡ look_up (of_length 5 keywords) word.now }
+fn of_three(word: &[u8]) -> Option<Keyword>
+    ensures { result ≡ look_up (of_length 3 keywords) word.now }
 {
-    let Some(word) = word.as_array::<5>() else {
+    let Some(word) = word.as_array::<3>() else {
         return None;
     };
-    if word == b"ready" {
-        return Some(Keyword::Ready);
-    }
-    if word == b"abort" {
-        return Some(Keyword::Abort);
-    }
-    if word == b"state" {
-        return Some(Keyword::State);
-    }
-    if word == b"group" {
+    if word == b"put" {
         return Some(Keyword::Later);
     }
-    if word == b"watch" {
+    if word == b"get" {
         return Some(Keyword::Later);
     }
-    if word == b"scale" {
-        return Some(Keyword::Scale);
+    if word == b"pre" {
+        return Some(Keyword::Pre);
     }
-    if word == b"image" {
-        return Some(Keyword::Image);
+    if word == b"cut" {
+        return Some(Keyword::Later);
     }
-    if word == b"mount" {
+    if word == b"end" {
         return Some(Keyword::Later);
     }
     None
-}
-
-#[tactic(auto, unfolding(crate::specs::Keywords::keywords))]
-fn of_six(word: &[u8]) -> Option<Keyword>
-    ensures { result ≡ look_up (of_length 6 keywords) word.now }
-{
-    let Some(word) = word.as_array::<6>() else {
-        return None;
-    };
-    if word == b"submit" {
-        return Some(Keyword::Submit);
-    }
-    if word == b"revert" {
-        return Some(Keyword::Later);
-    }
-    if word == b"commit" {
-        return Some(Keyword::Later);
-    }
-    if word == b"report" {
-        return Some(Keyword::Later);
-    }
-    if word == b"module" {
-        return Some(Keyword::Module);
-    }
-    if word == b"remove" {
-        return Some(Keyword::Remove);
-    }
-    None
-}
-
-#[tactic(auto, unfolding(crate::specs::Keywords::keywords))]
-fn of_seven(word: &[u8]) -> Option<Keyword>
-    ensures { result ≡ look_up (of_length 7 keywords) word.now }
-{
-    let Some(word) = word.as_array::<7>() else {
-        return None;
-    };
-    if word == b"success" {
-        return Some(Keyword::Success);
-    }
-    if word == b"nomount" {
-        return Some(Keyword::Later);
-    }
-    None
-}
-
-#[tactic(auto, unfolding(crate::specs::Keywords::keywords))]
-fn of_eight(word: &[u8]) -> Option<Keyword>
-    ensures { result ≡ look_up (of_length 8 keywords) word.now }
-{
-    let Some(word) = word.as_array::<8>() else {
-        return None;
-    };
-    if word == b"observer" {
-        return Some(Keyword::Later);
-    }
-    None
-}
-
-/// What a line with this first word is; None where no line begins so. The word is compared with those of its length.
-pub fn keyword_of(word: &[u8]) -> Option<Keyword>
-    ensures { result ≡ keyword_of word.now }
-{
-    match word.len() {
-        3 => of_three(word),
-        4 => of_four(word),
-        5 => of_five(word),
-        6 => of_six(word),
-        7 => of_seven(word),
-        8 => of_eight(word),
-        _ => None,
-    }
 }

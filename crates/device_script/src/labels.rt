@@ -38,14 +38,14 @@ impl Labels {
         }
     }
 
-    /// The module that a label stands for.
+    /// The module that a label stands for, or None if there is no such label.
     pub fn get(&self, label: &Name) -> Option<&SharedModule>
         ensures { option_map (λ m. m.now) result ≡ fin.get self.now label.now }
     {
         self.modules.get(label)
     }
 
-    /// The label stands for this module from now on.
+    /// The label stands for this module from now on. Fails only if memory runs out.
     pub fn put(&mut self, label: Name, content: SharedModule) -> Result<(), AllocError>
         ensures { OnOk result (self.new ≡ fin.insert self.old label content) }
     {

@@ -10,14 +10,10 @@ mod image;
 mod keyword;
 mod labels;
 mod line;
-#[cfg(test)]
-mod order_tests;
 mod read;
 mod split;
 #[cfg(test)]
 mod tests;
-#[cfg(test)]
-mod word_tests;
 mod words;
 
 pub use apex_world::{

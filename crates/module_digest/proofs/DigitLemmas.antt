@@ -1,10 +1,13 @@
 -- Digits in lower case: what they spell, and that they are the digits of what they spell.
-use Rattle.std.proofs.Common.{◌≡◌, ℕ, zero, suc, ◌+◌, ◌*◌, ◌/◌, ◌%◌, ◌<◌, ◌==◌, Bool, true, ◌&&◌, ◌||◌, not, List, [], ◌∷◌, ◌++◌, length, slice_index, Option, Some, None, unwrap_or, Ok, is_some, refl, ap, ◌∙◌, arith, inl, inr}
+use Rattle.std.proofs.Common.{◌≡◌, ℕ, zero, suc, ◌+◌, ◌*◌, ◌/◌, ◌%◌, ◌<◌, ◌==◌, Bool, true, ◌&&◌, ◌||◌, not, List, []}
+use Rattle.std.proofs.Common.{◌∷◌, ◌++◌, length, slice_index, Option, Some, None, unwrap_or, Ok, is_some, refl, ap, ◌∙◌}
+use Rattle.std.proofs.Common.{arith, inl, inr}
 use Rattle.std.specs.List.{list_all}
 use Rattle.std.specs.Int.{to_be_bytes, w32, byte_at, bytes_high_first}
 use Rattle.std.proofs.lemmas.Bool.{and_parts, cases_lt, eqb-true}
 use Rattle.std.proofs.lemmas.Bool.Decides.{nat_tests}
-use Rattle.hex.specs.Hex.{IsBytes, decode_pairs, decode_sized, digit_or_error, hex_digit_value, encode_lower, encode_with, lower_digits, pair_value, value_at}
+use Rattle.hex.specs.Hex.{IsBytes, decode_pairs, decode_sized, digit_or_error, hex_digit_value, encode_lower}
+use Rattle.hex.specs.Hex.{encode_with, lower_digits, pair_value, value_at}
 use Rattle.hex.proofs.HexLemmas.{length-encode_with, decode_of-encode_lower, decode_sized-twice}
 use Rattle.hex.proofs.Pairs.{cons_byte, decode_pairs-ok_pair, decode_sized-pairs}
 use Rattle.sha2.specs.Sha256.{sha256, digest_bytes}
@@ -13,7 +16,9 @@ use Rattle.module_digest.specs.Lines.{is_lower_digit}
 
 -- the value of a digit in lower case leads back to it
 abbrev back : ℕ → Bool
-back b = not (is_lower_digit b) || (is_some (hex_digit_value b) && (slice_index lower_digits (unwrap_or (hex_digit_value b) 0) == b))
+back b =
+    not (is_lower_digit b) ||
+    (is_some (hex_digit_value b) && (slice_index lower_digits (unwrap_or (hex_digit_value b) 0) == b))
 
 -- the numbers below n pass
 abbrev all_under : (ℕ → Bool) → ℕ → Bool
@@ -52,8 +57,14 @@ stands_for b h =
     let low : b < 103 = grind (arith, nat_tests) in
     let told : back b ≡ true = all_under-at back 103 b refl low in
     let parts = and_parts _ _ (or_right _ (rw h at told)) in
-    let read = of_some b (hex_digit_value b) refl parts.0 in
-    (unwrap_or (hex_digit_value b) 0, record { reads = read; small = value_small b _ read; digit = eqb-true _ _ parts.1 })
+    let read = of_some b (hex_digit_value b) refl parts.0 in (
+      unwrap_or (hex_digit_value b) 0,
+      record {
+        reads = read;
+        small = value_small b _ read;
+        digit = eqb-true _ _ parts.1;
+      },
+    )
 
 -- bytes whose digits in lower case are the text
 record Spells (i : ℕ) (text bytes : List ℕ) : Type 0 where
@@ -66,7 +77,8 @@ pair_of a b i v w h k =
     let y : value_at b (i + 1) ≡ Ok w = ap (digit_or_error b (i + 1)) k.reads in
     rw (x, y) refl
 
-digits_back : (a b v w : ℕ) (bytes rest : List ℕ) → StandsFor a v → StandsFor b w → encode_lower bytes ≡ rest → encode_lower ((v * 16 + w) ∷ bytes) ≡ a ∷ b ∷ rest
+digits_back : (a b v w : ℕ) (bytes rest : List ℕ) → StandsFor a v → StandsFor b w → encode_lower bytes ≡ rest
+    → encode_lower ((v * 16 + w) ∷ bytes) ≡ a ∷ b ∷ rest
 unfolding encode_with
 digits_back a b v w bytes rest h k e =
     let small : w < 16 = k.small in
@@ -74,7 +86,8 @@ digits_back a b v w bytes rest h k e =
     let low : (v * 16 + w) % 16 ≡ w = omega arith in
     rw (high, low, h.digit, k.digit, e) refl
 
-spells : (i : ℕ) (text : List ℕ) → length text % 2 ≡ 0 → list_all is_lower_digit text ≡ true → (bytes : List ℕ) × Spells i text bytes
+spells : (i : ℕ) (text : List ℕ) → length text % 2 ≡ 0 → list_all is_lower_digit text ≡ true
+    → (bytes : List ℕ) × Spells i text bytes
 unfolding decode_pairs encode_with
 spells i [] even h = ([], record { reads = refl; back = refl })
 spells i (a ∷ []) even h = absurd (omega arith)
@@ -87,7 +100,8 @@ spells i (a ∷ b ∷ rest) even h =
     let fact : Spells (i + 2) rest more.0 = more.1 in (
       (x.0 * 16 + y.0) ∷ more.0,
       record {
-        reads = decode_pairs-ok_pair i a b _ rest (pair_of a b i x.0 y.0 x.1 y.1) ∙ ap (cons_byte (x.0 * 16 + y.0)) fact.reads;
+        reads = decode_pairs-ok_pair i a b _ rest (pair_of a b i x.0 y.0 x.1 y.1)
+            ∙ ap (cons_byte (x.0 * 16 + y.0)) fact.reads;
         back = digits_back a b x.0 y.0 more.0 rest x.1 y.1 fact.back;
       },
     )
@@ -97,7 +111,8 @@ pub record SpellsDigest (digits bytes : List ℕ) : Type 0 where
   pub reads : decode_sized digits 32 ≡ Ok bytes
   pub back : encode_lower bytes ≡ digits
 
-pub digest_spelt : (digits : List ℕ) → length digits ≡ 64 → list_all is_lower_digit digits ≡ true → (bytes : List ℕ) × SpellsDigest digits bytes
+pub digest_spelt : (digits : List ℕ) → length digits ≡ 64 → list_all is_lower_digit digits ≡ true
+    → (bytes : List ℕ) × SpellsDigest digits bytes
 digest_spelt digits long all =
     let s = spells 0 digits (omega arith) all in
     let fact : Spells 0 digits s.0 = s.1 in
@@ -136,7 +151,8 @@ IsBytes-high_first (suc k) n (suc i) = IsBytes-high_first k n i
 IsBytes-digest : (h : List ℕ) (n : ℕ) → IsBytes (digest_bytes h n)
 unfolding digest_bytes
 IsBytes-digest h zero i = omega arith
-IsBytes-digest h (suc n) i = IsBytes-append (digest_bytes h n) (to_be_bytes w32 (slice_index h n)) (IsBytes-digest h n) (IsBytes-high_first 4 (slice_index h n)) i
+IsBytes-digest h (suc n) i = IsBytes-append (digest_bytes h n) (to_be_bytes w32 (slice_index h n)) (IsBytes-digest h n)
+    (IsBytes-high_first 4 (slice_index h n)) i
 
 IsBytes-sha256 : (content : List ℕ) → IsBytes (sha256 content)
 unfolding sha256

@@ -1,5 +1,6 @@
 -- Why a module isn't as its listing says: docs/formats/module.md.
-use Rattle.std.specs.Prelude.{◌≡◌, ℕ, Bool, List, [], ◌∷◌, codes, Option, Some, None, option_map, option_and_then, Result, Ok, Err, if◌then◌else◌}
+use Rattle.std.specs.Prelude.{ℕ, Bool, List, [], ◌∷◌, codes, Option, Some, None, option_map, option_and_then}
+use Rattle.std.specs.Prelude.{if◌then◌else◌}
 use Rattle.std.specs.Option.{option_or}
 use Rattle.std.specs.List.{list_any}
 use Rattle.std.specs.Str.{bytes_eq}
@@ -11,8 +12,6 @@ use Rattle.sha2.specs.Sha256.{sha256}
 use Rattle.module_digest.specs.Listing.{listed_files}
 use Rattle.module_digest.specs.Lines.{bad_line, entries}
 use Rattle.module_digest.specs.declared.lines.Entry.{Entry}
-use Rattle.module_digest.specs.declared.checks.CheckWhy.{CheckWhy}
-use Rattle.module_digest.specs.declared.checks.CheckWhy.TheVariants.{Fault, NoMemory}
 
 -- a line names the path
 abbrev pub is_listed : List Entry → List ℕ → Bool
@@ -29,7 +28,8 @@ absent m e = if fin.contains_key m e.path then None else Some (Absent e.path)
 -- a line whose file has another digest
 abbrev pub differs : FileMap → Entry → Option ModuleFault
 differs m e = option_and_then (λ content.
-    if bytes_eq (sha256 content) e.digest then None else Some (Differs e.path e.digest (sha256 content))) (fin.get m e.path)
+    if bytes_eq (sha256 content) e.digest then None else Some (Differs e.path e.digest (sha256 content)))
+    (fin.get m e.path)
 
 -- the fault of the first of these that has one
 abbrev pub first_fault : {X : Type 0} → (X → Option ModuleFault) → List X → Option ModuleFault
@@ -55,9 +55,3 @@ fault_of m (Some text) = text_fault m text
 -- the first fault of a module and its listing
 abbrev pub listing_fault : FileMap → Option ModuleFault
 listing_fault m = fault_of m (fin.get m (codes "apex_digests"))
-
--- what a check answers: the fault, or that there is none; want of memory tells nothing
-abbrev pub HasFault : Result (Unit {0}) CheckWhy → Option ModuleFault → Type 0
-HasFault (Ok done) fault = fault ≡ None
-HasFault (Err (Fault f)) fault = fault ≡ Some f
-HasFault (Err NoMemory) fault = Unit {0}

@@ -1,5 +1,6 @@
 -- The listing that a module should have: docs/formats/module.md.
-use Rattle.std.specs.Prelude.{ℕ, ◌&&◌, Bool, not, nat_le, Option, Some, None, if◌then◌else◌, List, [], ◌∷◌, ◌++◌, filter, flat_map, codes}
+use Rattle.std.specs.Prelude.{ℕ, ◌&&◌, Bool, not, nat_le, Option, Some, None, if◌then◌else◌, List, [], ◌∷◌, ◌++◌}
+use Rattle.std.specs.Prelude.{filter, flat_map, codes}
 use Rattle.std.specs.Str.{bytes_eq}
 use Rattle.std.specs.FinMap as fin
 use Rattle.apex_base.specs.Modules.{FileMap}
@@ -8,21 +9,21 @@ use Rattle.apex_base.specs.declared.module.PutWhy.TheVariants.{Files}
 use Rattle.sha2.specs.Sha256.{sha256}
 use Rattle.hex.specs.Hex.{encode_lower}
 
--- where the listing stands
+-- the path of the listing
 abbrev pub is_own_path : List ℕ → Bool
 is_own_path path = bytes_eq path (codes "apex_digests")
 
--- the files that it is to name, ascending by path: all but itself
+-- the files that it has to name, ascending by path: all but itself
 abbrev pub listed_files : FileMap → List (List ℕ × List ℕ)
 listed_files m = filter (λ f. not (is_own_path f.0)) (fin.entries m)
 
 -- a file's line: the digest of its content in hexadecimal, a space, its path and a line feed
-unfoldable pub line_of : List ℕ × List ℕ → List ℕ
-line_of f = encode_lower (sha256 f.1) ++ 32 ∷ f.0 ++ 10 ∷ []
+unfoldable pub listing_line : List ℕ × List ℕ → List ℕ
+listing_line f = encode_lower (sha256 f.1) ++ 32 ∷ f.0 ++ 10 ∷ []
 
 -- a listing is the lines of these files
 abbrev pub listing : FileMap → List ℕ
-listing m = flat_map line_of (listed_files m)
+listing m = flat_map listing_line (listed_files m)
 
 -- the module with that listing
 abbrev pub sealed : FileMap → FileMap

@@ -1,84 +1,42 @@
-//! A module against its listing. The faults are looked for in the order of `ModuleFault`, and digests are
-//! computed last, each once.
+//! Checks a module against its listing. The checks come in the order of `ModuleFault`, and digests are computed last,
+//! each once.
 ghost use Rattle.std.specs.Prelude.{◌≡◌, ◌≤◌, length};
-ghost use Rattle.module_digest.specs.Faults.{HasFault, listing_fault, text_fault, entries_fault, first_fault, unlisted, absent, differs, is_listed};
+ghost use Rattle.apex_base.specs.Answers.{Answers};
+ghost use Rattle.apex_base.specs.Results.{pass};
+ghost use Rattle.module_digest.specs.Faults.{listing_fault, text_fault, entries_fault, first_fault, unlisted, absent};
+ghost use Rattle.module_digest.specs.Faults.{differs, is_listed};
 ghost use Rattle.module_digest.specs.Listing.{listed_files};
 
 use crate::digits::digest_of;
+use crate::known::known;
 use crate::lines::{Entry, read_entries};
-use crate::told::told;
-use apex_base::{FilePath, Module, ModuleFault};
+use apex_base::{FilePath, Module, ModuleFault, Why};
 use std::alloc::Global;
 
-/// Why a module's listing isn't found to be sound.
-#[derive(Clone, Copy, Debug, PartialEq, Eq)]
-pub enum CheckWhy {
-    /// The first fault in the order of `ModuleFault`.
-    Fault(ModuleFault),
-    NoMemory,
-}
+/// Why a check of a listing failed: the first fault in the order of `ModuleFault`, or out of memory.
+pub type CheckWhy = Why<ModuleFault>;
 
-fn is_listed(entries: &[Entry], path: &FilePath) -> bool
-    ensures { result ≡ is_listed entries.now path.now }
+/// Checks the module against its listing. `Fault` has the first fault, in the order of `ModuleFault` from
+/// `NoListing` on; `NoMemory` is answered only if memory runs out.
+pub fn check_listing(alloc: Global, directory: &Module) -> Result<(), CheckWhy>
+    ensures { Answers result (pass (listing_fault directory.now)) }
 {
-    entries.iter().any(|entry| *path == entry.path)
-}
-
-/// The least file beside the listing that the listing lacks.
-fn unlisted_fault(directory: &Module, entries: &[Entry]) -> Option<ModuleFault>
-    ensures { result ≡ first_fault (unlisted entries.now) (listed_files directory.now) }
-{
-    let own = FilePath::listing();
-    for (path, _) in directory.files() {
-        if *path != own && !is_listed(entries, path) {
-            return Some(ModuleFault::Unlisted { path: *path });
-        }
-    }
-    None
-}
-
-/// The first listed path that isn't a file.
-fn absent_fault(directory: &Module, entries: &[Entry]) -> Option<ModuleFault>
-    ensures { result ≡ first_fault (absent directory.now) entries.now }
-{
-    for entry in entries {
-        if directory.get(&entry.path).is_none() {
-            return Some(ModuleFault::Absent { path: entry.path });
-        }
-    }
-    None
-}
-
-fn differs(directory: &Module, entry: &Entry) -> Option<ModuleFault>
-    ensures { result ≡ differs directory.now entry.now }
-{
-    match directory.get(&entry.path) {
-        Some(content) => {
-            let actual = digest_of(content);
-            if actual == entry.digest {
-                None
-            } else {
-                Some(ModuleFault::Differs {
-                    path: entry.path,
-                    listed: entry.digest,
-                    actual,
-                })
-            }
-        }
-        None => None,
+    known(directory);
+    match directory.get(&FilePath::listing()) {
+        Some(text) => check_text(alloc, directory, text),
+        None => Err(CheckWhy::Fault(ModuleFault::NoListing)),
     }
 }
 
-/// The first listed file whose content has another digest.
-fn differing_fault(directory: &Module, entries: &[Entry]) -> Option<ModuleFault>
-    ensures { result ≡ first_fault (differs directory.now) entries.now }
+fn check_text(alloc: Global, directory: &Module, text: &[u8]) -> Result<(), CheckWhy>
+    requires { length text.now ≤ 1048576 }
+    ensures { Answers result (pass (text_fault directory.now text.now)) }
 {
-    for entry in entries {
-        if let Some(fault) = differs(directory, entry) {
-            return Some(fault);
-        }
+    let entries = read_entries(alloc, text)?;
+    match entries_fault(directory, entries.as_slice()) {
+        Some(fault) => Err(CheckWhy::Fault(fault)),
+        None => Ok(()),
     }
-    None
 }
 
 fn entries_fault(directory: &Module, entries: &[Entry]) -> Option<ModuleFault>
@@ -93,27 +51,60 @@ fn entries_fault(directory: &Module, entries: &[Entry]) -> Option<ModuleFault>
     differing_fault(directory, entries)
 }
 
-fn check_text(alloc: Global, directory: &Module, text: &[u8]) -> Result<(), CheckWhy>
-    requires { length text.now ≤ 1048576 }
-    ensures { HasFault result (text_fault directory.now text.now) }
+/// The first listed file whose content has another digest.
+fn differing_fault(directory: &Module, entries: &[Entry]) -> Option<ModuleFault>
+    ensures { result ≡ first_fault (differs directory.now) entries.now }
 {
-    match read_entries(alloc, text) {
-        Err(why) => Err(why),
-        Ok(entries) => match entries_fault(directory, &entries) {
-            Some(fault) => Err(CheckWhy::Fault(fault)),
-            None => Ok(()),
-        },
+    for entry in entries {
+        if let Some(fault) = differs(directory, entry) {
+            return Some(fault);
+        }
     }
+    None
 }
 
-/// Whether the module is as its listing says. `Fault` has the first fault, in the order of `ModuleFault`
-/// from `NoListing` on; `NoMemory` comes only where memory is wanting.
-pub fn check_listing(alloc: Global, directory: &Module) -> Result<(), CheckWhy>
-    ensures { HasFault result (listing_fault directory.now) }
+fn differs(directory: &Module, entry: &Entry) -> Option<ModuleFault>
+    ensures { result ≡ differs directory.now entry.now }
 {
-    told(directory);
-    match directory.get(&FilePath::listing()) {
-        Some(text) => check_text(alloc, directory, text),
-        None => Err(CheckWhy::Fault(ModuleFault::NoListing)),
+    let content = directory.get(&entry.path)?;
+    let actual = digest_of(content);
+    if actual == entry.digest {
+        return None;
     }
+    Some(ModuleFault::Differs {
+        path: entry.path,
+        listed: entry.digest,
+        actual,
+    })
+}
+
+/// The first listed path that isn't a file.
+fn absent_fault(directory: &Module, entries: &[Entry]) -> Option<ModuleFault>
+    ensures { result ≡ first_fault (absent directory.now) entries.now }
+{
+    for entry in entries {
+        if directory.get(&entry.path).is_none() {
+            return Some(ModuleFault::Absent { path: entry.path });
+        }
+    }
+    None
+}
+
+/// The least file, other than the listing, that the listing lacks.
+fn unlisted_fault(directory: &Module, entries: &[Entry]) -> Option<ModuleFault>
+    ensures { result ≡ first_fault (unlisted entries.now) (listed_files directory.now) }
+{
+    let own = FilePath::listing();
+    for (path, _) in directory.files() {
+        if *path != own && !is_listed(entries, path) {
+            return Some(ModuleFault::Unlisted { path: *path });
+        }
+    }
+    None
+}
+
+fn is_listed(entries: &[Entry], path: &FilePath) -> bool
+    ensures { result ≡ is_listed entries.now path.now }
+{
+    entries.iter().any(|entry| *path == entry.path)
 }

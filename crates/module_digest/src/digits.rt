@@ -1,4 +1,4 @@
-//! Digests as hexadecimal digits in lower case. Other digits than these are no digits of a listing.
+//! Digests as hexadecimal digits in lower case. A listing has no other digits.
 ghost use Rattle.std.specs.Prelude.{◌≡◌, MatchResult};
 ghost use Rattle.std.specs.List.{list_all};
 ghost use Rattle.sha2.specs.Sha256.{sha256};
@@ -7,12 +7,6 @@ ghost use Rattle.module_digest.specs.Lines.{is_lower_digit};
 
 use sha2::{Digest, Sha256};
 
-fn is_lower_digit(b: u8) -> bool
-    ensures { result ≡ is_lower_digit b }
-{
-    b.is_ascii_digit() || (b >= b'a' && b <= b'f')
-}
-
 /// Whether all bytes are hexadecimal digits, letters in lower case.
 pub fn all_lower_digits(digits: &[u8]) -> bool
     ensures { result ≡ list_all is_lower_digit digits.now }
@@ -20,7 +14,7 @@ pub fn all_lower_digits(digits: &[u8]) -> bool
     digits.iter().all(|b| is_lower_digit(*b))
 }
 
-/// The 32 bytes that 64 digits of either case spell; None where they spell none.
+/// The 32 bytes that 64 digits of either case spell; None if they aren't such digits.
 pub fn digest_of_digits(digits: &[u8]) -> Option<[u8; 32]>
     ensures { MatchResult (decode_sized digits.now 32) (λ digest. result ≡ Some digest) (λ e. result ≡ None) }
 {
@@ -46,4 +40,10 @@ pub fn digits_of(digest: &[u8; 32]) -> [u8; 64]
     let fits = hex::encode_to_slice(digest.as_slice(), &mut digits).is_ok();
     prove!(fits);
     digits
+}
+
+fn is_lower_digit(b: u8) -> bool
+    ensures { result ≡ is_lower_digit b }
+{
+    b.is_ascii_digit() || (b >= b'a' && b <= b'f')
 }

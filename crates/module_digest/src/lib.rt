@@ -3,12 +3,12 @@
 
 mod checks;
 mod digits;
+mod known;
 mod laws;
 mod lines;
 mod sealing;
 #[cfg(test)]
 mod tests;
-mod told;
 
 pub use checks::{CheckWhy, check_listing};
 pub use digits::digits_of;

@@ -27,8 +27,8 @@ pub record IsBatch (batch : Batch) : Type 0 where
   pub rows : AllByRecursion IsRow batch.rows
   pub ascending : IsStrictlySortedBy (slice_cmp nat_cmp) (keys_of batch.rows)
 
--- a value is put under the key by 1, and by 2 the key's row is deleted. A key stands behind its length in one
--- byte, and a value behind its length in four
+-- a value is put under the key by 1, and by 2 the key's row is deleted. A key stands after its length in one
+-- byte, and a value after its length in four
 abbrev pub change_text : List ℕ → Option (List ℕ) → List ℕ
 change_text key (Some value) = 1 ∷ length key ∷ key ++ (to_be_bytes w32 (length value) ++ value)
 change_text key None = 2 ∷ length key ∷ key
@@ -92,7 +92,7 @@ row_above low bytes = do
   row ← row_at bytes
   if is_lt (slice_cmp nat_cmp low row.0.key) then Some row else None
 
--- so many rows, each key above the one before it, and nothing behind the last row
+-- so many rows, each key above the one before it, and nothing after the last row
 unfoldable pub rows_of : List ℕ → ℕ → List ℕ → Option (List Row)
 rows_of low zero bytes = if length bytes == 0 then Some [] else None
 rows_of low (suc count) bytes = do

@@ -9,7 +9,7 @@ use crate::{Batch, Row};
 use apex_base::Listed;
 use std::alloc::{AllocError, Global};
 
-/// The batch that the bytes spell; None exactly where they spell none.
+/// The batch that the bytes spell; None if and only if they spell none.
 pub fn decode_batch(alloc: Global, bytes: &[u8]) -> Result<Option<Batch>, AllocError>
     // What is found is spelled so, each byte of it.
     ensures found { IfOk result (λ found. IfSome found (Spells bytes.now)) }

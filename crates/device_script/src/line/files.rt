@@ -1,6 +1,6 @@
-//! A path and a content, in hexadecimal or as it stands.
+//! A path and a content, in hexadecimal or byte by byte.
 ghost use Rattle.device_script.specs.Lines.{file_words, text_said};
-ghost use Rattle.device_script.specs.Taking.{Gives};
+ghost use Rattle.apex_base.specs.Answers.{Answers};
 ghost use Rattle.device_script.specs.Words.{words_of};
 
 use super::read_or;
@@ -10,28 +10,25 @@ use crate::words::{content, cut_word};
 use apex_base::{Bytes, FilePath};
 use std::alloc::Global;
 
+/// Of a `file` line: a path, and a content in hexadecimal. Beside the faults of a line, memory may run out.
 #[tactic(auto, unfolding(crate::specs::Lines::file_words))]
 pub fn file_words(alloc: Global, rest: &[u8]) -> Result<(FilePath, Bytes), LineError>
-    ensures { Gives result (file_words (words_of rest.now)) }
+    ensures { Answers result (file_words (words_of rest.now)) }
 {
-    let Some((place, digits)) = word_and_long_word(rest) else {
-        return Err(LineError::Fault(LineFault::Words));
-    };
-    let path = read_or(2, FilePath::read(place))?;
+    let (word, digits) = word_and_long_word(rest).ok_or(LineFault::Words)?;
+    let path = read_or(2, FilePath::read(word))?;
     let content = content(alloc, digits)?;
     let content = read_or(3, content)?;
     Ok((path, content))
 }
 
-/// A path, and what stands after it and one space. It is copied once.
+/// Of a `text` line: a path, and a content, which is what comes after the path and one space. It is copied once.
 #[tactic(auto, unfolding(crate::specs::Lines::text_said))]
 pub fn text_said(alloc: Global, rest: &[u8]) -> Result<(FilePath, Bytes), LineError>
-    ensures { Gives result (text_said rest.now) }
+    ensures { Answers result (text_said rest.now) }
 {
-    let Some((place, content)) = cut_word(rest) else {
-        return Err(LineError::Fault(LineFault::Words));
-    };
-    let path = read_or(2, FilePath::read(place))?;
+    let (word, content) = cut_word(rest).ok_or(LineFault::Words)?;
+    let path = read_or(2, FilePath::read(word))?;
     let content = Bytes::of(content.to_vec(alloc)?);
     Ok((path, content))
 }

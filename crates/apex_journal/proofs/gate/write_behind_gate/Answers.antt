@@ -21,8 +21,10 @@ returns-in-Err-write_and_sync-clause-any_moment g c =
     (From (g.D.Disk.images c.args.disk.now) (MayBeGated c.args.gate c.args.bytes.now))
     c.write_and_sync.ensures.any_moment c.write_and_sync-2.ensures.any_moment
     (λ f left. (left.0, left.1, inl left.2))
-    (gate_torn (g.D.Disk.reads c.args.disk.now) (g.D.Disk.reads c.write_and_sync.new.disk) (g.D.Disk.images c.args.disk.now)
-    (g.D.Disk.images c.write_and_sync.new.disk) c.args.gate c.args.bytes.now c.in-Ok.ensures.written c.in-Ok.ensures.settled
+    (gate_torn (g.D.Disk.reads c.args.disk.now) (g.D.Disk.reads c.write_and_sync.new.disk)
+    (g.D.Disk.images c.args.disk.now)
+    (g.D.Disk.images c.write_and_sync.new.disk) c.args.gate c.args.bytes.now c.in-Ok.ensures.written
+    c.in-Ok.ensures.settled
     (g.met.D.Disk.reads_left c.args.disk.now))
 
 pub returns-in-Ok-write_and_sync-clause-any_moment : goal.returns-in-Ok-write_and_sync-clause-any_moment
@@ -33,6 +35,8 @@ returns-in-Ok-write_and_sync-clause-any_moment g c =
     (From (g.D.Disk.images c.args.disk.now) (MayBeGated c.args.gate c.args.bytes.now))
     c.write_and_sync.ensures.any_moment c.write_and_sync-2.ensures.any_moment
     (λ f left. (left.0, left.1, inl left.2))
-    (gate_torn (g.D.Disk.reads c.args.disk.now) (g.D.Disk.reads c.write_and_sync.new.disk) (g.D.Disk.images c.args.disk.now)
-    (g.D.Disk.images c.write_and_sync.new.disk) c.args.gate c.args.bytes.now c.in-Ok.ensures.written c.in-Ok.ensures.settled
+    (gate_torn (g.D.Disk.reads c.args.disk.now) (g.D.Disk.reads c.write_and_sync.new.disk)
+    (g.D.Disk.images c.args.disk.now)
+    (g.D.Disk.images c.write_and_sync.new.disk) c.args.gate c.args.bytes.now c.in-Ok.ensures.written
+    c.in-Ok.ensures.settled
     (g.met.D.Disk.reads_left c.args.disk.now))

@@ -5,8 +5,19 @@ use Rattle.apex_world.proofs.modules.short_weight.Goals as goal
 
 pub returns-clause-weight : goal.returns-clause-weight
 returns-clause-weight c =
-    omega (arith, short_weighs c.args.name.now c.args.version, ap length c.as_bytes.ensures.bytes, ap length c.format-digits.ensures.text, ap (λ n. length (decimal n)) c.number.ensures.value)
+    omega (
+      arith,
+      short_weighs c.args.name.now c.args.version,
+      ap length c.as_bytes.ensures.bytes,
+      ap length c.format-digits.ensures.text,
+      ap (λ n. length (decimal n)) c.number.ensures.value,
+    )
 
 pub returns-clause-small : goal.returns-clause-small
 returns-clause-small c =
-    omega (arith, name_short c.args.name.now c.as_bytes.ensures.name, ap length c.as_bytes.ensures.bytes, c.format-digits.ensures.short)
+    omega (
+      arith,
+      name_short c.args.name.now c.as_bytes.ensures.name,
+      ap length c.as_bytes.ensures.bytes,
+      c.format-digits.ensures.short,
+    )

@@ -21,7 +21,8 @@ returns-clause-run g c =
     let first = c.take_room.new.self in
     let s = c.apex_play-status.result.status in
     let turns = c.apex_play-status.result.turns in
-    let over : IsPlayed words (remaining c.new-source.result.reader) (remaining source.reader) (held_of contents first) (held_of contents sink) s turns =
+    let over : IsPlayed words (remaining c.new-source.result.reader) (remaining source.reader) (held_of contents first)
+    (held_of contents sink) s turns =
     record {
       text = said.text;
       whole_text = said.whole_text;
@@ -36,15 +37,18 @@ returns-clause-run g c =
       refused = said.refused;
       taken = said.taken;
     } in
-    let played = subst (λ r. IsPlayed words (remaining r) (remaining source.reader) (held_of contents first) (held_of contents sink) s turns) c.new-source.ensures.reader over in
+    let played = subst (λ r. IsPlayed words (remaining r) (remaining source.reader) (held_of contents first)
+    (held_of contents sink) s turns) c.new-source.ensures.reader over in
     let written : first.writer ≡ c.args.writer = c.take_room.ensures.writer ∙ c.new-sink.ensures.writer in
     let none : first.gathered.items ≡ [] = c.take_room.ensures.gathered ∙ c.new-sink.ensures.empty in
-    let put : IsPut (contents c.args.writer) (contents last.writer) last.gathered.items (held_of contents first) (held_of contents sink) (held_of contents last) =
+    let put : IsPut (contents c.args.writer) (contents last.writer) last.gathered.items (held_of contents first)
+    (held_of contents sink) (held_of contents last) =
     record {
       start = held_at_first contents first.writer c.args.writer first.gathered.items written none;
       kept = end.kept;
       end = refl;
     } in
     let turned : IsTurned s c.write_rest-status.result = record { refused = end.refused; failed = end.failed } in
-    run_ends words (remaining c.args.reader) (remaining source.reader) (contents c.args.writer) (contents last.writer) last.gathered.items (held_of contents first) (held_of contents sink) (held_of contents last) s
+    run_ends words (remaining c.args.reader) (remaining source.reader) (contents c.args.writer) (contents last.writer)
+    last.gathered.items (held_of contents first) (held_of contents sink) (held_of contents last) s
     c.write_rest-status.result turns played put turned end.written

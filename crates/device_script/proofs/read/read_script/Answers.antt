@@ -5,8 +5,8 @@ use Rattle.device_script.proofs.OrderLemmas.{script_orders}
 use Rattle.device_script.proofs.PlayableScripts.{script_playable}
 use Rattle.device_script.proofs.read.read_script.Goals as goal
 
-pub returns-in-Ok-clause-playable : goal.returns-in-Ok-clause-playable
-returns-in-Ok-clause-playable c = IfOk-at_ok IsPlayable c.in-Ok.ensures (script_playable c.args.bytes.now)
+pub returns-clause-playable : goal.returns-clause-playable
+returns-clause-playable c = IfOk-at_ok IsPlayable c.in_ok-read.ensures (script_playable c.args.bytes.now)
 
-pub returns-in-Ok-clause-orders : goal.returns-in-Ok-clause-orders
-returns-in-Ok-clause-orders c = IfOk-at_ok HasOrders c.in-Ok.ensures (script_orders c.args.bytes.now)
+pub returns-clause-orders : goal.returns-clause-orders
+returns-clause-orders c = IfOk-at_ok HasOrders c.in_ok-read.ensures (script_orders c.args.bytes.now)

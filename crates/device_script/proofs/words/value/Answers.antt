@@ -5,21 +5,21 @@ use Rattle.std.proofs.lemmas.Bool.Decides.{nat_tests}
 use Rattle.device_script.proofs.Values.{front_at_most}
 use Rattle.device_script.proofs.words.value.Goals as goal
 
-pub returns-in_default : goal.returns-in_default
-returns-in_default c =
+pub returns-in_err-checked_mul : goal.returns-in_err-checked_mul
+returns-in_err-checked_mul c =
     let ds = c.args.digits.now in
     let i = c.loop-b.b-index in
     let most = front_at_most ds (i + 1) in
     let more = fold_more (λ n d. 10 * n + (d - 48)) 0 ds i 0 (omega arith) in
-    grind (arith, nat_tests, most, more)
+    rw c.from_residual.ensures (grind (arith, nat_tests, most, more))
 
-pub returns-in_default-checked_add : goal.returns-in_default-checked_add
-returns-in_default-checked_add c =
+pub returns-in_err-n : goal.returns-in_err-n
+returns-in_err-n c =
     let ds = c.args.digits.now in
     let i = c.loop-b.b-index in
     let most = front_at_most ds (i + 1) in
     let more = fold_more (λ n d. 10 * n + (d - 48)) 0 ds i 0 (omega arith) in
-    grind (arith, nat_tests, most, more)
+    rw c.from_residual-in_err-n.ensures (grind (arith, nat_tests, most, more))
 
 pub returns : goal.returns
 returns c =

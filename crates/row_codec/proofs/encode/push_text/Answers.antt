@@ -6,7 +6,7 @@ use Rattle.row_codec.specs.Batch.{row_text, batch_text}
 use Rattle.row_codec.proofs.Growth.{kept_front, kept_through, added_twice, added_behind}
 use Rattle.row_codec.proofs.encode.push_text.Goals as goal
 
--- the number and the count of rows, behind what was there
+-- the number and the count of rows, after what was there
 head : (c : goal.After-push_rows)
     → c.extend_from_slice-2.new.self.items
     ≡ c.args.into.now.items ++ (to_be_bytes w64 c.args.seq ++ to_be_bytes w32 (length c.args.rows.now))

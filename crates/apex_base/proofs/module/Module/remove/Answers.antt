@@ -8,7 +8,8 @@ use Rattle.apex_base.proofs.module.Module.remove.Goals as goal
 pub invariant_of-self : goal.invariant_of-self
 invariant_of-self c = record {
   ascending = c.remove.ensures.ordered;
-  whole = subst IsModule {x = fin.remove (fin.from_entries c.self.inside.files.entries) c.args.path.now} (same_files _ _ (λ q. grind (gets, rules))) (less_module _ c.args.path.now c.self.invariant.whole);
+  whole = subst IsModule {x = fin.remove (fin.from_entries c.self.inside.files.entries) c.args.path.now}
+      (same_files _ _ (λ q. grind (gets, rules))) (less_module _ c.args.path.now c.self.invariant.whole);
 }
 
 pub returns-clause-removed : goal.returns-clause-removed

@@ -5,10 +5,12 @@ use Rattle.apex_base.proofs.module.Module.weight.Goals as goal
 
 pub overflow_add-weight-in-loop-content : goal.overflow_add-weight-in-loop-content
 overflow_add-weight-in-loop-content c =
-    let most : module_weight c.args.self.now ≤ 67125248 = rw c.files-content-items.ensures.files at (weight_below _ c.files-content-items.ensures.holds) in
+    let most : module_weight c.args.self.now ≤ 67125248 =
+    rw c.files-content-items.ensures.files at (weight_below _ c.files-content-items.ensures.holds) in
     grind (arith, rules, c.loop-content.invariant, most)
 
 pub returns-clause-small : goal.returns-clause-small
 returns-clause-small c =
-    let most : module_weight c.args.self.now ≤ 67125248 = rw c.files-content-items.ensures.files at (weight_below _ c.files-content-items.ensures.holds) in
+    let most : module_weight c.args.self.now ≤ 67125248 =
+    rw c.files-content-items.ensures.files at (weight_below _ c.files-content-items.ensures.holds) in
     grind (arith, rules, c.loop-content.invariant, most)

@@ -9,7 +9,8 @@ returns c =
       newest = refl;
       synced = same;
       pending = c.new.ensures.items;
-      settled = settled (record { bytes = c.args.bytes; synced = c.in_ok-to_vec.field-0; pending = c.new.result }) c.new.ensures.items same;
+      settled = settled (record { bytes = c.args.bytes; synced = c.in_ok-to_vec.field-0; pending = c.new.result })
+          c.new.ensures.items same;
       meter = c.of.ensures;
       past = ap told c.new-2.ensures.items;
       steps = c.new-3.ensures.items;

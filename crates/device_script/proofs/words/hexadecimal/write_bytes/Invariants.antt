@@ -5,4 +5,5 @@ use Rattle.device_script.proofs.words.hexadecimal.write_bytes.Given as goal
 
 -- the bytes so far, and those of the digits that are left
 abbrev pub invariant-loop-i : goal.invariant-loop-i
-invariant-loop-i l = decode_pairs 0 l.digits ≡ prepend (take l.i l.bytes) (decode_pairs (2 * l.i) (drop (2 * l.i) l.digits))
+invariant-loop-i l =
+    decode_pairs 0 l.digits ≡ prepend (take l.i l.bytes) (decode_pairs (2 * l.i) (drop (2 * l.i) l.digits))

@@ -1,0 +1,161 @@
+-- What a boot leaves of sessions: `boot_follows`.
+use Rattle.std.proofs.Common.{◌≡◌, ◌≢◌, ℕ, Bool, true, false, cond, List, ◌∷◌, length, map, Option, Some, None, sym, ap, subst, ◌∙◌, refl}
+use Rattle.apex_base.specs.declared.numbers.SessionId.{SessionId}
+use Rattle.apex_base.specs.declared.records.Record.{Record}
+use Rattle.apex_base.specs.declared.records.RollbackState.{RollbackState}
+use Rattle.apex_base.specs.declared.records.RollbackState.TheVariants as rollbacks
+use Rattle.apex_base.specs.declared.records.State.{State}
+use Rattle.apex_base.specs.declared.records.State.TheVariants as state
+use Rattle.apex_base.specs.Held.{is_available}
+use Rattle.apex_base.specs.Members.{In, EachPair}
+use Rattle.apex_base.specs.Rollbacks.{not_enabled, no_longer, given_up, is_expired, is_eligible}
+use Rattle.apex_base.specs.Sessions.{has_id}
+use Rattle.apex_base.specs.Windows.{is_looping}
+use Rattle.apex_base.proofs.MemberLemmas.{in_map_back}
+use Rattle.apex_base.proofs.SessionLemmas.{ascend_map}
+use Rattle.apex_world.specs.declared.calls.BootOrder.{BootOrder}
+use Rattle.apex_world.specs.declared.world.Submission.{Submission}
+use Rattle.apex_world.specs.Boot.{reverted, rebuilt, is_same_build, keeps_rollback, booted, kept_in, become, counted, started, after_loop, boot_world, loop_trigger}
+use Rattle.apex_world.specs.Follows.{IsKeptAs, Becomes, Leads, Follows}
+use Rattle.apex_world.specs.Lawful.{ids_of, HaveIds, HaveRollbackSessions}
+use Rattle.apex_world.specs.Rows.{undoes}
+use Rattle.apex_world.specs.Selection.{Mounts, cause_of}
+use Rattle.apex_world.specs.Trigger.{eligible}
+use Rattle.apex_world.specs.World.{World}
+use Rattle.apex_world.proofs.BootStays.{Boots, become_boots, boots_becomes, boots_then, Waits}
+use Rattle.apex_world.proofs.CallStays.{trigger_follows_new, among_eligible}
+use Rattle.apex_world.proofs.CommitStays.{ascend_filter}
+use Rattle.apex_world.proofs.LeadsLemmas.{same_ids, leads_map, leads_then, leads_as}
+use Rattle.apex_world.proofs.NewIds.{AreNew, rollback_new}
+use Rattle.apex_world.proofs.PlainLemmas.{reverted_keeps, activated_keeps}
+use Rattle.apex_base.specs.Commit.{rollback_id}
+
+-- Ids after a step of each session by itself
+
+ids_kept : (r s : Record) → IsKeptAs r s → ids_of s ≡ ids_of r
+ids_kept r s k = ap (λ (x : SessionId). x ∷ s.children) k.id ∙ ap (λ (cs : List SessionId). r.id ∷ cs) k.children
+
+module _ (ss : List Record) (f : Record → Record) (keeps : (r : Record) → IsKeptAs r (f r)) where
+  pub ids_map : HaveIds ss → HaveIds (map f ss)
+  ids_map law = record {
+    ascend = ascend_map f ss (λ r. (keeps r).id) law.ascend;
+    distinct = λ s h. let (r, i, e) = in_map_back f s ss h in
+        subst (λ (s : Record). EachPair (λ (a b : SessionId). a.0 ≢ b.0) (ids_of s)) e (subst (EachPair
+        (λ (a b : SessionId). a.0 ≢ b.0)) (sym (ids_kept r (f r) (keeps r))) (law.distinct r i));
+    apart = λ s t id h i d u v. let (q, j, e) = in_map_back f s ss h in let (r, k, g) = in_map_back f t ss i in
+        law.apart q r id j k
+        (λ same. d (ap (λ (x : Record). x.id.0) (sym e) ∙ ap (λ (x : SessionId). x.0) (keeps q).id ∙ same
+        ∙ ap (λ (x : SessionId). x.0) (sym (keeps r).id) ∙ ap (λ (x : Record). x.id.0) g))
+        (sym (same_ids id q (f q) (keeps q)) ∙ ap (has_id id) e ∙ u)
+        (sym (same_ids id r (f r) (keeps r)) ∙ ap (has_id id) g ∙ v);
+    callers = λ s id h e u. let (r, i, g) = in_map_back f s ss h in
+        law.callers r id i (ap undoes (sym (keeps r).kind) ∙ ap (λ (x : Record). undoes x.kind) g ∙ e)
+        (subst (In id) (ids_kept r (f r) (keeps r)) (subst (λ (s : Record). In id (ids_of s)) (sym g) u));
+  }
+
+  pub new_map : (r : Record) → AreNew ss r → AreNew (map f ss) (f r)
+  new_map r fresh s id h u =
+      let (q, i, e) = in_map_back f s ss h in
+      ap (has_id id) (sym e) ∙ same_ids id q (f q) (keeps q)
+      ∙ fresh q id i (subst (λ (xs : List SessionId). In id (map rollback_id xs)) (ids_kept r (f r) (keeps r)) u)
+
+-- No boot makes a rollback available
+
+given_up_not : (o : Option RollbackState) → is_available (given_up o) ≡ true → ⊥
+given_up_not None e = absurd (cc)
+given_up_not (Some rollbacks.Enabling) e = absurd (cc)
+given_up_not (Some rollbacks.Available) e = absurd (cc)
+given_up_not (Some rollbacks.Committed) e = absurd (cc)
+given_up_not (Some rollbacks.Deleted) e = absurd (cc)
+
+no_longer_not : (o : Option RollbackState) → is_available (no_longer o) ≡ true → ⊥
+no_longer_not None e = absurd (cc)
+no_longer_not (Some rollbacks.Enabling) e = absurd (cc)
+no_longer_not (Some rollbacks.Available) e = absurd (cc)
+no_longer_not (Some rollbacks.Committed) e = absurd (cc)
+no_longer_not (Some rollbacks.Deleted) e = absurd (cc)
+
+not_enabled_was : (o : Option RollbackState) → is_available (not_enabled o) ≡ true → is_available o ≡ true
+not_enabled_was None e = e
+not_enabled_was (Some rollbacks.Enabling) e = absurd (cc)
+not_enabled_was (Some rollbacks.Available) e = refl
+not_enabled_was (Some rollbacks.Committed) e = e
+not_enabled_was (Some rollbacks.Deleted) e = e
+
+kept_was : (s : State) (o : Option RollbackState) → is_available (kept_in s o) ≡ true → is_available o ≡ true
+kept_was state.Verified o e = e
+kept_was state.Staged o e = e
+kept_was state.Activated o e = e
+kept_was state.ActivationFailed o e = not_enabled_was o e
+kept_was state.Success o e = e
+kept_was state.RevertInProgress o e = e
+kept_was state.Reverted o e = not_enabled_was o e
+kept_was state.Aborted o e = e
+
+aged_was : (b : Bool) (s : State) (o : Option RollbackState) → is_available (cond b (no_longer o) (kept_in s o)) ≡ true
+    → is_available o ≡ true
+aged_was true s o e = absurd (no_longer_not o e)
+aged_was false s o e = kept_was s o e
+
+rebuilt_was : (b : Bool) (o : Option RollbackState) → is_available (cond b o (given_up o)) ≡ true
+    → is_available o ≡ true
+rebuilt_was true o e = e
+rebuilt_was false o e = absurd (given_up_not o e)
+
+module _ (mounts : Mounts) (modules : List Submission) (order : BootOrder) (n : ℕ) (r : Record) where
+  abbrev second : Record
+  second = reverted r
+
+  abbrev third : Record
+  third = rebuilt order.image second
+
+  abbrev last : Record
+  last = booted mounts modules order.image n r
+
+  pub become_was : is_available (become mounts modules order n r).rollback ≡ true → is_available r.rollback ≡ true
+  become_was e =
+      let a = aged_was (is_expired order.time last) last.state last.rollback e in
+      let b = (activated_keeps third.state (is_same_build order.image third)
+      (cause_of mounts modules order.image.modules third.parts) n third).1 in
+      let c = rebuilt_was (keeps_rollback order.image second) second.rollback (ap is_available (sym b) ∙ a) in
+      ap is_available (sym (reverted_keeps r.state r).1) ∙ c
+
+-- Boots
+
+module _ (w : World) (ids : HaveIds w.sessions) (undone : HaveRollbackSessions w.sessions) (order : BootOrder)
+    (mounts : Mounts) where
+  abbrev turn : Record → Record
+  turn = become mounts w.modules order (length (counted w).eras)
+
+  abbrev mid : List Record
+  mid = map turn w.sessions
+
+  turn_boots : (r : Record) → Boots r (turn r)
+  turn_boots r = become_boots mounts w.modules order (length (counted w).eras) r
+
+  turned : Leads Boots w.sessions mid
+  turned = leads_map Boots turn w.sessions ids.ascend (λ r. (turn_boots r).kept.id) (λ r h. turn_boots r)
+
+  mid_new : (x : Record) → In x (eligible mid) → AreNew mid x
+  mid_new x h =
+      let (i, e) = among_eligible mid x h in
+      let (r, j, f) = in_map_back turn x w.sessions i in
+      let was = become_was mounts w.modules order (length (counted w).eras) r (ap
+      (λ (x : Record). is_available x.rollback) f ∙ e) in
+      subst (AreNew mid) f (new_map w.sessions turn
+      (λ r. (turn_boots r).kept) r (rollback_new w.sessions ids undone r j was))
+
+  looped : Leads Waits mid (loop_trigger order mid).sessions
+  looped = trigger_follows_new mid (ids_map w.sessions turn
+      (λ r. (turn_boots r).kept) ids) (eligible mid) (ascend_filter (is_eligible mid) mid turned.ascend)
+      (λ x h. (among_eligible mid x h).0) mid_new order.image.print order.observers
+
+  loop_if : (b : Bool) → Follows w.sessions (after_loop (started w order mounts) (cond b (Some
+      (loop_trigger order mid)) None)).sessions
+  loop_if true = leads_then Boots Waits Becomes (λ r s b. b.kept)
+      (λ r s b. b.kept) boots_then w.sessions mid (loop_trigger order mid).sessions turned looped
+  loop_if false = leads_as Boots Becomes w.sessions mid boots_becomes turned
+
+  -- what a boot leaves of sessions
+  pub boot_follows : Follows w.sessions (boot_world w order mounts).sessions
+  boot_follows = loop_if (is_looping order.time (started w order mounts).moments)

@@ -1,0 +1,185 @@
+-- Revert in worlds that are alike. Callers want `revert_alike`.
+use Rattle.std.proofs.Common.{◌≡◌, ◌⊎◌, ℕ, Bool, true, false, cond, eqb, ◌&&◌, List, map, Option, Some, None, sym, ap}
+use Rattle.std.proofs.Common.{subst, ◌∙◌, refl, inl, inr}
+use Rattle.std.specs.Prelude.{not, is_some}
+use Rattle.std.specs.List.{list_any}
+use Rattle.std.specs.Str.{bytes_eq}
+use Rattle.std.proofs.lemmas.Bool.{false≢true, and_parts, and_from, or_right}
+use Rattle.apex_base.specs.declared.moves.Move.TheVariants as step_of
+use Rattle.apex_base.specs.declared.numbers.SessionId.{SessionId}
+use Rattle.apex_base.specs.declared.records.Part.{Part}
+use Rattle.apex_base.specs.declared.records.Record.{Record}
+use Rattle.apex_base.specs.declared.records.RollbackState.{RollbackState}
+use Rattle.apex_base.specs.declared.records.RollbackState.TheVariants.{Enabling, Available, Committed, Deleted}
+use Rattle.apex_base.specs.declared.records.State.{State}
+use Rattle.apex_base.specs.declared.records.State.TheVariants as state
+use Rattle.apex_base.specs.Commit.{rollback_id, rolls_back}
+use Rattle.apex_base.specs.Held.{is_unfinished, is_undoable, is_success, is_available}
+use Rattle.apex_base.specs.Moves.{moved}
+use Rattle.apex_base.specs.Sessions.{names, session_of}
+use Rattle.apex_base.proofs.MemberLemmas.{in_map, in_map_back}
+use Rattle.apex_base.proofs.SessionLemmas.{of_found, of_in}
+use Rattle.apex_world.specs.Advance.{in_state, reverting, revert}
+use Rattle.apex_world.specs.Lawful.{Lawful}
+use Rattle.apex_world.specs.Rows.{undoes, is_staged, is_staged_session, may_happen, has_snapshot}
+use Rattle.apex_world.specs.Stepped.{Stepped, refused, done}
+use Rattle.apex_base.specs.declared.refusal.Refusal.TheVariants.{NothingToRevert}
+use Rattle.apex_world.specs.StoredAlike.{KeepsPast, AreAlikeInParts, AreSteppedAlike}
+use Rattle.apex_world.specs.World.{World}
+use Rattle.apex_world.proofs.AlikeAfter.{NothingNew, NoPastNew, alike_after}
+use Rattle.apex_world.proofs.AlikeLemmas.{other, beside, unchanged, refused_alike}
+use Rattle.apex_world.proofs.KeptLemmas.{ordered}
+use Rattle.apex_world.proofs.KeptLess.{Goes, Carries}
+use Rattle.apex_world.proofs.MovesAlike.{goes_self}
+use Rattle.apex_world.proofs.WorldRows.{same_id}
+
+-- What a revert leaves of a session
+
+pub record IsSameBut (r s : Record) : Type 0 where
+  pub id : s.id ≡ r.id
+  pub kind : s.kind ≡ r.kind
+  pub parts : s.parts ≡ r.parts
+  pub activation : s.activation ≡ r.activation
+  pub rollback : s.rollback ≡ r.rollback
+
+in_state_same : (o : Option State) (r : Record) → IsSameBut r (in_state o r)
+in_state_same None r = record { id = refl; kind = refl; parts = refl; activation = refl; rollback = refl }
+in_state_same (Some s) r = record { id = refl; kind = refl; parts = refl; activation = refl; rollback = refl }
+
+same_but : (r : Record) → IsSameBut r (reverting r)
+same_but r = in_state_same (moved r.state step_of.Revert) r
+
+-- a session stays, or it was activated and is to be reverted
+revert_if : (r : Record) (s : State) → r.state ≡ s
+    → (reverting r ≡ r) ⊎ ((r.state ≡ state.Activated) × (reverting r ≡ record r { state = state.RevertInProgress }))
+revert_if r state.Verified e = inl (ap (λ (s : State). in_state (moved s step_of.Revert) r) e)
+revert_if r state.Staged e = inl (ap (λ (s : State). in_state (moved s step_of.Revert) r) e)
+revert_if r state.Activated e = inr (e, ap (λ (s : State). in_state (moved s step_of.Revert) r) e)
+revert_if r state.ActivationFailed e = inl (ap (λ (s : State). in_state (moved s step_of.Revert) r) e)
+revert_if r state.Success e = inl (ap (λ (s : State). in_state (moved s step_of.Revert) r) e)
+revert_if r state.RevertInProgress e = inl (ap (λ (s : State). in_state (moved s step_of.Revert) r) e)
+revert_if r state.Reverted e = inl (ap (λ (s : State). in_state (moved s step_of.Revert) r) e)
+revert_if r state.Aborted e = inl (ap (λ (s : State). in_state (moved s step_of.Revert) r) e)
+
+goes_reverting : (r : Record) → Goes r (reverting r)
+goes_reverting r =
+    elim (revert_if r r.state refl) [
+      | inl e ↦ subst (Goes r) (sym e) (goes_self r)
+      | inr (s, e) ↦ subst (Goes r) (sym e) (record {
+        parts = refl;
+        unfinished = λ u. ap is_unfinished s;
+        stays = λ f. absurd (false≢true (sym (ap is_success s) ∙ f));
+        came = λ u. inl (ap is_unfinished s);
+        available = λ f. (or_right (is_undoable r.state) (is_available r.rollback) f, refl);
+      })
+    ]
+
+undoable_back : (r : Record) → is_undoable (reverting r).state ≡ true → is_undoable r.state ≡ true
+undoable_back r u =
+    elim (revert_if r r.state refl) [
+      | inl e ↦ ap (λ (s : Record). is_undoable s.state) (sym e) ∙ u
+      | inr (s, e) ↦ ap is_undoable s
+    ]
+
+staged_back : (r : Record) → is_staged (reverting r).state ≡ true → is_staged r.state ≡ true
+staged_back r u =
+    elim (revert_if r r.state refl) [
+      | inl e ↦ ap (λ (s : Record). is_staged s.state) (sym e) ∙ u
+      | inr (s, e) ↦ absurd (false≢true (ap (λ (s : Record). is_staged s.state) (sym e) ∙ u))
+    ]
+
+staged_some : (o : Option Record) → is_staged_session o ≡ true
+    → (z : Record) × (o ≡ Some z) × (is_staged z.state ≡ true)
+staged_some None e = absurd (cc)
+staged_some (Some z) e = (z, refl, e)
+
+module _ (w : World) (law : Lawful w) where
+  abbrev after : List Record
+  after = map reverting w.sessions
+
+  carries_all : Carries w.sessions after
+  carries_all = record {
+    back = λ s i.
+        let (r, j, e) = in_map_back reverting s w.sessions i in
+        inl (r, j, subst (Goes r) e (goes_reverting r));
+    forth = λ r i. (reverting r, in_map reverting r w.sessions i, goes_reverting r);
+  }
+
+  nothing_new : NothingNew w.sessions after
+  nothing_new s p i fresh j =
+      let (r, k, e) = in_map_back reverting s w.sessions i in
+      absurd (fresh.unused r k (ap (λ (id : SessionId). id.0) (sym (same_but r).id) ∙ ap (λ (s : Record). s.id.0) e))
+
+  staged_before : (id : SessionId) → is_staged_session (session_of after id) ≡ true
+      → is_staged_session (session_of w.sessions id) ≡ true
+  staged_before id e =
+      let (z, f, s) = staged_some (session_of after id) e in
+      let (i, zid) = of_found after id z f in
+      let (q, j, is) = in_map_back reverting z w.sessions i in
+      let qid : q.id.0 ≡ id.0 =
+      ap (λ (id : SessionId). id.0) (sym (same_but q).id) ∙ ap (λ (z : Record). z.id.0) is ∙ zid in
+      ap is_staged_session (ap (session_of w.sessions) (sym (same_id q.id id qid))
+      ∙ of_in w.sessions q law.ids.ascend j)
+      ∙ staged_back q (ap (λ (z : Record). is_staged z.state) is ∙ s)
+
+  may_before : (id : SessionId) (o : Option RollbackState) → may_happen after id o ≡ true
+      → may_happen w.sessions id o ≡ true
+  may_before id None m = absurd (cc)
+  may_before id (Some Enabling) m = refl
+  may_before id (Some Available) m = refl
+  may_before id (Some Committed) m = staged_before (rollback_id id) m
+  may_before id (Some Deleted) m = absurd (cc)
+
+  -- a session keeps what it kept
+  snapshot_same : (r s : Record) → IsSameBut r s → has_snapshot after s ≡ has_snapshot after r
+  snapshot_same r s b =
+      ap (λ k. rolls_back k && not (eqb s.activation 0) && may_happen after s.id s.rollback) b.kind
+      ∙ ap (λ n. rolls_back r.kind && not (eqb n 0) && may_happen after s.id s.rollback) b.activation
+      ∙ ap (λ id. rolls_back r.kind && not (eqb r.activation 0) && may_happen after id s.rollback) b.id
+      ∙ ap (λ o. rolls_back r.kind && not (eqb r.activation 0) && may_happen after r.id o) b.rollback
+
+  keeps_before : (r : Record) → KeepsPast after (reverting r) → KeepsPast w.sessions r
+  keeps_before r (inl k) =
+      let (first, m) =
+      and_parts (rolls_back r.kind && not (eqb r.activation 0)) (may_happen after r.id r.rollback)
+      (sym (snapshot_same r (reverting r) (same_but r)) ∙ k) in
+      inl (and_from (rolls_back r.kind && not (eqb r.activation 0)) (may_happen w.sessions r.id r.rollback) first
+      (may_before r.id r.rollback m))
+  keeps_before r (inr k) =
+      let (kind, u) = and_parts (undoes (reverting r).kind) (is_undoable (reverting r).state) k in
+      inr (and_from (undoes r.kind) (is_undoable r.state) (ap undoes (sym (same_but r).kind)
+      ∙ kind) (undoable_back r u))
+
+  names_same : (r s : Record) (name : List ℕ) → reverting r ≡ s → names name s ≡ true → names name r ≡ true
+  names_same r s name e n =
+      ap (λ (ps : List Part). list_any (λ p. bytes_eq p.name name) ps) (sym (same_but r).parts)
+      ∙ ap (names name) e ∙ n
+
+  no_past : NoPastNew w.sessions after
+  no_past s name i k n =
+      let (r, j, e) = in_map_back reverting s w.sessions i in (
+        r,
+        j,
+        keeps_before r (subst (KeepsPast after) (sym e) k),
+        names_same r s name e n,
+        sym (same_but r).activation ∙ ap (λ (s : Record). s.activation) e,
+      )
+
+module _ (w v : World) (a : AreAlikeInParts w v) (law : Lawful w) where
+  abbrev reverted_all : World → Stepped
+  reverted_all z = done (record z { sessions = map reverting z.sessions })
+
+  revert_by : (b : Bool) → Lawful (cond b (reverted_all w) (refused w NothingToRevert)).world
+      → AreSteppedAlike (cond b (reverted_all w) (refused w NothingToRevert))
+      (cond b (reverted_all (other w v a)) (refused (other w v a) NothingToRevert))
+  revert_by true lawful = record {
+    reply = refl;
+    world = alike_after w v a (map reverting w.sessions) (ordered w law) (ordered _ lawful) (carries_all w law)
+        (nothing_new w law) (no_past w law) w.clock;
+  }
+  revert_by false lawful = refused_alike w (other w v a) NothingToRevert (unchanged w v a)
+
+  pub revert_alike : Lawful (revert w).world → AreSteppedAlike (revert w) (revert v)
+  revert_alike lawful =
+      beside w v a revert
+      (revert_by (list_any (λ r. is_some (moved r.state step_of.Revert)) w.sessions) lawful)

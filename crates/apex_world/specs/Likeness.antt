@@ -1,0 +1,38 @@
+-- Laws of worlds that are alike: docs/rows.md, "Alike".
+use Rattle.std.specs.Prelude.{◌≡◌, Bool, true, false}
+use Rattle.apex_world.specs.declared.calls.Call.{Call}
+use Rattle.apex_world.specs.declared.calls.Call.TheVariants as calls
+use Rattle.apex_world.specs.Alike.{Alike}
+use Rattle.apex_world.specs.Lawful.{Lawful}
+use Rattle.apex_world.specs.Step.{step}
+use Rattle.apex_world.specs.StoredAlike.{AreAlikeInParts, AreSteppedAlike}
+use Rattle.apex_world.specs.World.{World}
+
+-- lawful worlds that are alike have the same parts
+
+abbrev pub AlikeInParts : Type 0
+AlikeInParts = (w v : World) → Lawful w → Lawful v → Alike w v → AreAlikeInParts w v
+
+abbrev pub AlikeByParts : Type 0
+AlikeByParts = (w v : World) → Lawful w → Lawful v → AreAlikeInParts w v → Alike w v
+
+-- the calls that never change a session
+abbrev pub leaves_sessions : Call → Bool
+leaves_sessions (calls.Submit id children rollback parts) = false
+leaves_sessions (calls.Ready id) = false
+leaves_sessions (calls.Abort id) = false
+leaves_sessions (calls.Success time id) = false
+leaves_sessions calls.Revert = false
+leaves_sessions (calls.Commit id) = false
+leaves_sessions (calls.Put name key value) = true
+leaves_sessions (calls.Drop name key) = true
+leaves_sessions (calls.Get name key) = true
+leaves_sessions (calls.StateOf id) = true
+leaves_sessions (calls.Watch time observer duration names) = true
+leaves_sessions (calls.Report time name why) = false
+
+-- they have the same replies in worlds that are alike, and lead to worlds that are alike
+abbrev pub QuietCallsAreAlike : Type 0
+QuietCallsAreAlike =
+    (w v : World) → AreAlikeInParts w v → (call : Call) → leaves_sessions call ≡ true
+    → AreSteppedAlike (step w call) (step v call)

@@ -1,0 +1,33 @@
+use Rattle.std.proofs.Common.{◌<◌, ◌+◌, ◌^◌, ◌∙◌, length, ap, sym, subst, refl, arith}
+use Rattle.apex_world.specs.Playable.{IsPlayableBoot}
+use Rattle.play_text.proofs.Puts.{faults_more}
+use Rattle.device_play.proofs.Runs.{Stopped-at, Went-next, ran_err, boots_plan_at, boots_plan_next}
+use Rattle.device_play.proofs.run.Run.play_boots.Goals as goal
+
+pub play_boot_and_calls-requires-clause-playable : goal.play_boot_and_calls-requires-clause-playable
+play_boot_and_calls-requires-clause-playable g c =
+    subst (IsPlayableBoot (2 ^ 32)) (sym c.boot-item.is)
+    (c.requires.playable c.loop-boot.boot-index c.boot-item.result c.loop-boot-test.true)
+
+pub returns-in_err-play_boot_and_calls-clause-ran : goal.returns-in_err-play_boot_and_calls-clause-ran
+returns-in_err-play_boot_and_calls-clause-ran g c =
+    let xs = c.args.boots.now in
+    let i = c.loop-boot.boot-index in
+    let lt : i < length xs = omega arith in
+    ran_err _ _ _ _ c.from_residual.ensures.0
+    (Stopped-at _ _ _ _ _ _ _ (boots_plan_at i (c.loop-boot.number + 1) xs c.boot-item.result lt c.boot-item.is
+    (omega arith)) c.loop-boot.invariant.went c.in_err-play_boot_and_calls.ensures.ran)
+
+pub loop-boot-preserved : goal.loop-boot-preserved
+loop-boot-preserved g c =
+    let xs = c.args.boots.now in
+    let i = c.loop-boot.boot-index in
+    let lt : i < length xs = omega arith in
+    record {
+      went = Went-next _ _ _ _ _ _ (boots_plan_next i (c.loop-boot.number + 1) xs c.boot-item.result lt c.boot-item.is
+          (omega arith)) c.loop-boot.invariant.went c.in_ok-play_boot_and_calls.ensures.ran;
+      count = omega arith;
+      counted = c.in_ok-play_boot_and_calls.ensures.boots refl ∙ ap (λ k. k + 1) c.loop-boot.invariant.counted;
+      faults = faults_more _ _ _ _ _ c.loop-boot.invariant.faults c.in_ok-play_boot_and_calls.ensures.faults;
+      within = c.in_ok-play_boot_and_calls.ensures.within refl;
+    }

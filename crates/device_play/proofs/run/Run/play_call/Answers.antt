@@ -1,0 +1,11 @@
+use Rattle.std.proofs.Common.{refl}
+use Rattle.device_play.proofs.Runs.{Stopped-none, ran_err, ran_one}
+use Rattle.device_play.proofs.run.Run.play_call.Goals as goal
+
+pub returns-in_err-reply-clause-ran : goal.returns-in_err-reply-clause-ran
+returns-in_err-reply-clause-ran g c =
+    ran_err _ _ _ _ c.from_residual.ensures.0 (Stopped-none _ _ _ c.in_err-reply.ensures.no_turn refl)
+
+pub returns-clause-ran : goal.returns-clause-ran
+returns-clause-ran g c = ran_one _ _ _ _ c.in_ok-reply.ensures.turn c.in_ok-reply.ensures.world
+    (rw c.in_ok-reply.ensures.reply at c.reply_line.ensures.put)

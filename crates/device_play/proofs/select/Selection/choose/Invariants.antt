@@ -1,7 +1,0 @@
-use Rattle.std.proofs.Common.{◌≡◌, take}
-use Rattle.apex_world.specs.Selection.{chosen}
-use Rattle.device_play.proofs.select.Selection.choose.Given as goal
-
--- the modules so far are chosen from
-abbrev pub invariant-loop-m : goal.invariant-loop-m
-invariant-loop-m g l = l.picks.items ≡ chosen (g.M.Mounter.mounting l.self.mounter.now) l.self.modules.now l.sessions (take l.m-index l.self.image.now)

@@ -1,0 +1,5 @@
+pub mod Boots
+pub mod Bounds
+pub mod InPlace
+pub mod Search
+pub mod Submits
