@@ -5,22 +5,16 @@ use Rattle.apex_base.specs.declared.records.Level.{Level}
 use Rattle.apex_base.specs.declared.records.Level.TheVariants as level
 
 abbrev pub is_low : Level → Bool
-is_low level.None = false
 is_low level.Low = true
-is_low level.Medium = false
-is_low level.High = false
+is_low _ = false
 
 abbrev pub is_medium : Level → Bool
-is_medium level.None = false
-is_medium level.Low = false
 is_medium level.Medium = true
-is_medium level.High = false
+is_medium _ = false
 
 abbrev pub is_high : Level → Bool
-is_high level.None = false
-is_high level.Low = false
-is_high level.Medium = false
 is_high level.High = true
+is_high _ = false
 
 -- the first of the least level above none
 abbrev pub acting : List Level → Option ℕ

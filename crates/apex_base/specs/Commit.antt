@@ -55,12 +55,7 @@ rollback_session sessions x print = record {
 abbrev pub is_waiting : State → Bool
 is_waiting state.Verified = true
 is_waiting state.Staged = true
-is_waiting state.Activated = false
-is_waiting state.ActivationFailed = false
-is_waiting state.Success = false
-is_waiting state.RevertInProgress = false
-is_waiting state.Reverted = false
-is_waiting state.Aborted = false
+is_waiting _ = false
 
 -- a session that gives way to a new one
 abbrev pub superseded : SessionId → Record → Record
@@ -84,9 +79,8 @@ committed sessions x print = with_session (rollback_session sessions x print) (m
 
 -- no session with rollback has the id
 abbrev pub rolls_back : Kind → Bool
-rolls_back Plain = false
 rolls_back WithRollback = true
-rolls_back (RollbackOf x) = false
+rolls_back _ = false
 
 abbrev pub with_rollback_only : SessionId → Option Record → Result Record Refusal
 with_rollback_only id None = Err (NoRollback id)

@@ -1,6 +1,6 @@
 -- Which targets names have, and which are kept, by the sessions that were ever made: docs/sessions.md,
 -- "Held and before" and "Kept".
-use Rattle.std.specs.Prelude.{ℕ, ◌&&◌, ◌||◌, ◌==◌, Bool, true, false, nat_lt, List, [], ◌∷◌, ◌++◌, Option, Some, None}
+use Rattle.std.specs.Prelude.{ℕ, ◌&&◌, ◌||◌, ◌==◌, Bool, true, false, nat_lt, List, [], ◌∷◌, ◌++◌, Option, Some, None, ◌≡◌, refl, codes}
 use Rattle.std.specs.Prelude.{find, fold, flat_map, if◌then◌else◌}
 use Rattle.std.specs.List.{list_any}
 use Rattle.std.specs.Option.{option_map}
@@ -14,6 +14,7 @@ use Rattle.apex_base.specs.declared.records.Target.{Target}
 use Rattle.apex_base.specs.declared.records.Target.TheVariants as targets
 use Rattle.apex_base.specs.declared.records.State.{State}
 use Rattle.apex_base.specs.declared.records.State.TheVariants as state
+use Rattle.apex_base.specs.declared.records.Kind.TheVariants.{Plain}
 
 -- the state of a session that may still change what a name holds
 abbrev pub is_unfinished : State → Bool
@@ -93,3 +94,38 @@ is_module session part (targets.Module s p version) = (s.0 == session.0) && (p =
 -- this module is among the targets
 abbrev pub is_target : List Target → SessionId → ℕ → Bool
 is_target targets session part = list_any (is_module session part) targets
+
+-- Worked values: session 1 of `a` succeeded at boot 2, and boot 3 activated session 2 of `a`, which can still be undone.
+-- The name holds the module of 2, and held that of 1 before it; both are kept
+
+abbrev pub example_target : ℕ → Target
+example_target n = targets.Module (record { 0 = n }) 0 n
+
+abbrev pub example : ℕ → State → ℕ → Record
+example n s boot = record {
+  id = record { 0 = n };
+  children = [];
+  kind = Plain;
+  parts = record { name = codes "a"; version = Some n; target = example_target n } ∷ [];
+  print = codes "P";
+  state = s;
+  cause = None;
+  activation = boot;
+  rollback = None;
+  moment = 0;
+}
+
+abbrev pub examples : List Record
+examples = example 1 state.Success 2 ∷ example 2 state.Activated 3 ∷ []
+
+pub holds_the_later : held examples (codes "a") ≡ example_target 2
+holds_the_later = refl
+
+pub held_before : before examples (example 2 state.Activated 3) (codes "a") ≡ example_target 1
+held_before = refl
+
+pub keeps_both : kept examples ≡ example_target 2 ∷ example_target 2 ∷ example_target 2 ∷ example_target 1 ∷ []
+keeps_both = refl
+
+pub nothing_held : held examples (codes "b") ≡ targets.Preinstalled
+nothing_held = refl

@@ -17,6 +17,7 @@ pub mod Results
 pub mod Rollbacks
 pub mod RowSums
 pub mod Sessions
+pub mod Settled
 pub mod Spelling
 pub mod Tables
 pub mod Text

@@ -1,5 +1,7 @@
 -- The moves between a session's states: docs/sessions.md, "Moves" (AOSP's apexd_session.cpp and StagingManager).
 use Rattle.std.specs.Prelude.{ℕ, Option, Some, None}
+use Rattle.apex_base.specs.declared.records.RollbackState.{RollbackState}
+use Rattle.apex_base.specs.declared.records.RollbackState.TheVariants.{Enabling, Deleted}
 use Rattle.apex_base.specs.declared.records.State.{State}
 use Rattle.apex_base.specs.declared.records.State.TheVariants as state
 use Rattle.apex_base.specs.declared.moves.Move.{Move}
@@ -31,3 +33,8 @@ moved state.Staged by.Fail = Some state.ActivationFailed
 moved state.Activated by.Undo = Some state.Reverted
 moved state.RevertInProgress by.Undo = Some state.Reverted
 moved _ _ = None
+
+-- the state of a session's rollback after the move: an abort gives up one that isn't available yet
+abbrev pub rollback_after : Move → Option RollbackState → Option RollbackState
+rollback_after by.Abort (Some Enabling) = Some Deleted
+rollback_after _ rollback = rollback

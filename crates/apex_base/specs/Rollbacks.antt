@@ -13,41 +13,27 @@ use Rattle.apex_base.specs.Sessions.{shares}
 
 -- one that isn't available yet is deleted
 abbrev pub not_enabled : Option RollbackState → Option RollbackState
-not_enabled None = None
 not_enabled (Some Enabling) = Some Deleted
-not_enabled (Some Available) = Some Available
-not_enabled (Some Committed) = Some Committed
-not_enabled (Some Deleted) = Some Deleted
+not_enabled rollback = rollback
 
 -- one that is available is deleted
 abbrev pub no_longer : Option RollbackState → Option RollbackState
-no_longer None = None
-no_longer (Some Enabling) = Some Enabling
 no_longer (Some Available) = Some Deleted
-no_longer (Some Committed) = Some Committed
-no_longer (Some Deleted) = Some Deleted
+no_longer rollback = rollback
 
 -- one that may still be used is deleted
 abbrev pub given_up : Option RollbackState → Option RollbackState
-given_up None = None
 given_up (Some Enabling) = Some Deleted
 given_up (Some Available) = Some Deleted
-given_up (Some Committed) = Some Committed
-given_up (Some Deleted) = Some Deleted
+given_up rollback = rollback
 
 abbrev pub is_enabling : Option RollbackState → Bool
-is_enabling None = false
 is_enabling (Some Enabling) = true
-is_enabling (Some Available) = false
-is_enabling (Some Committed) = false
-is_enabling (Some Deleted) = false
+is_enabling _ = false
 
 abbrev pub is_committed : Option RollbackState → Bool
-is_committed None = false
-is_committed (Some Enabling) = false
-is_committed (Some Available) = false
 is_committed (Some Committed) = true
-is_committed (Some Deleted) = false
+is_committed _ = false
 
 -- 14 days, in milliseconds
 abbrev pub lifetime : ℕ

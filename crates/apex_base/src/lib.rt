@@ -28,7 +28,7 @@ pub use laws::{no_bytes_spell_two_records, no_two_things_have_one_key, reading_u
 pub use listed::Listed;
 pub use memory::{MemSink, MemSource};
 pub use module::{Module, PutWhy};
-pub use moves::{Move, moved};
+pub use moves::{Move, moved, rollback_after};
 pub use numbers::{Millis, Scale, SessionId, Version};
 pub use outside::{Failed, Gate, Mounter, OpenGate, Sink, Source};
 pub use path::FilePath;

@@ -1,8 +1,8 @@
 //! The moves between the states of a session. The crates above decide which sessions move.
 ghost use Rattle.std.specs.Prelude.{◌≡◌};
-ghost use Rattle.apex_base.specs.Moves.{moved};
+ghost use Rattle.apex_base.specs.Moves.{moved, rollback_after};
 
-use crate::State;
+use crate::{RollbackState, State};
 
 /// A move of a session: the table of `docs/sessions.md`, "Moves". No line makes a `Revert` yet.
 #[derive(Clone, Copy, Debug, PartialEq, Eq)]
@@ -29,5 +29,15 @@ pub fn moved(state: State, by: Move) -> Option<State>
         (Move::Fail, State::Verified | State::Staged) => Some(State::ActivationFailed),
         (Move::Undo, State::Activated | State::RevertInProgress) => Some(State::Reverted),
         _ => None,
+    }
+}
+
+/// The state of a session's rollback after a move: an abort gives up one that isn't available yet.
+pub fn rollback_after(by: Move, rollback: Option<RollbackState>) -> Option<RollbackState>
+    ensures { result ≡ rollback_after by rollback }
+{
+    match (by, rollback) {
+        (Move::Abort, Some(RollbackState::Enabling)) => Some(RollbackState::Deleted),
+        _ => rollback,
     }
 }

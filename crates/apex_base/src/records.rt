@@ -2,6 +2,7 @@
 //! together.
 ghost use Rattle.std.specs.Prelude.{◌≡◌};
 ghost use Rattle.apex_base.specs.Held.{is_unfinished, is_standing, is_undoable, is_success, is_available};
+ghost use Rattle.apex_base.specs.Rollbacks.{given_up};
 ghost use Rattle.apex_base.specs.Moves.{state_number};
 
 use crate::listed::Listed;
@@ -87,6 +88,18 @@ impl RollbackState {
         ensures { result ≡ is_available rollback }
     {
         matches!(rollback, Some(RollbackState::Available))
+    }
+
+    /// What becomes of a rollback that may no longer be used: one that isn't committed yet is deleted.
+    pub fn given_up(rollback: Option<Self>) -> Option<Self>
+        ensures { result ≡ given_up rollback }
+    {
+        match rollback {
+            Some(RollbackState::Enabling | RollbackState::Available) => {
+                Some(RollbackState::Deleted)
+            }
+            _ => rollback,
+        }
     }
 }
 

@@ -12,12 +12,12 @@ use Rattle.apex_base.specs.declared.records.State.{State}
 use Rattle.apex_base.specs.declared.records.State.TheVariants as state
 use Rattle.apex_base.specs.declared.records.Target.{Target}
 use Rattle.apex_base.specs.Members.{In}
-use Rattle.apex_base.specs.Rollbacks.{is_committed, not_enabled, no_longer, is_expired}
+use Rattle.apex_base.specs.Rollbacks.{is_committed, given_up, not_enabled, no_longer, is_expired}
 use Rattle.apex_base.specs.Windows.{is_looping}
 use Rattle.apex_world.specs.declared.calls.BootOrder.{BootOrder}
 use Rattle.apex_world.specs.declared.modules.Package.{Package}
 use Rattle.apex_world.specs.declared.world.Submission.{Submission}
-use Rattle.apex_world.specs.Boot.{reverted, reverted_in, rebuilt, keeps_rollback, given_up, is_same_build, activated_in}
+use Rattle.apex_world.specs.Boot.{reverted, reverted_in, rebuilt, keeps_rollback, is_same_build, activated_in}
 use Rattle.apex_world.specs.Boot.{booted, kept_in, become, started, boot_world, after_loop, loop_trigger}
 use Rattle.apex_world.specs.Selection.{Mounts, preinstalled, target_case, case_beside, case_of, cause_or, cause_of}
 use Rattle.apex_world.specs.Trigger.{eligible}

@@ -8,11 +8,12 @@ use Rattle.apex_base.specs.declared.records.RollbackState.{RollbackState}
 use Rattle.apex_base.specs.declared.records.State.{State}
 use Rattle.apex_base.specs.declared.records.State.TheVariants as state
 use Rattle.apex_base.specs.Held.{is_undoable, is_unfinished, is_standing, is_success}
+use Rattle.apex_base.specs.Rollbacks.{given_up}
 use Rattle.apex_world.specs.declared.calls.BootOrder.{BootOrder}
 use Rattle.apex_world.specs.declared.calls.Image.{Image}
 use Rattle.apex_world.specs.declared.world.Submission.{Submission}
 use Rattle.apex_world.specs.Boot.{ended, rebuilt_in, with_rollback, activated_by, kept_by, activated, become}
-use Rattle.apex_world.specs.Boot.{is_same_build, keeps_rollback, given_up}
+use Rattle.apex_world.specs.Boot.{is_same_build, keeps_rollback}
 use Rattle.apex_world.specs.Lawful.{never_activated}
 use Rattle.apex_world.specs.Selection.{Mounts, cause_of}
 

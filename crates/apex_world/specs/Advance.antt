@@ -11,7 +11,7 @@ use Rattle.apex_base.specs.declared.moves.Move.{Move}
 use Rattle.apex_base.specs.declared.moves.Move.TheVariants as step_of
 use Rattle.apex_base.specs.declared.refusal.Refusal.TheVariants.{NoSession, BadState, NothingToRevert}
 use Rattle.apex_base.specs.Held.{is_success}
-use Rattle.apex_base.specs.Moves.{moved}
+pub use Rattle.apex_base.specs.Moves.{moved, rollback_after}
 use Rattle.apex_base.specs.Rollbacks.{is_enabling, no_longer}
 use Rattle.apex_base.specs.Sessions.{has_id, shares, session_of, with_session}
 use Rattle.apex_world.specs.declared.calls.Reply.TheVariants as reply
@@ -22,11 +22,6 @@ use Rattle.apex_base.specs.declared.records.Target.TheVariants.{Preinstalled}
 use Rattle.apex_base.specs.declared.numbers.Scale.TheVariants.{Small}
 
 -- Ready and Abort
-
--- an abort gives up a rollback that isn't available yet
-abbrev pub rollback_after : Move → Option RollbackState → Option RollbackState
-rollback_after step_of.Abort (Some Enabling) = Some Deleted
-rollback_after m rollback = rollback
 
 -- a session moves from its state, if the move may begin there; the clock is raised
 abbrev pub move_to : World → ℕ → Record → Move → Option State → Stepped

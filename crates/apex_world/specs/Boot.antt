@@ -12,7 +12,7 @@ use Rattle.apex_base.specs.declared.records.RollbackState.{RollbackState}
 use Rattle.apex_base.specs.declared.records.State.{State}
 use Rattle.apex_base.specs.declared.records.State.TheVariants as state
 use Rattle.apex_base.specs.Moves.{state_number}
-use Rattle.apex_base.specs.Rollbacks.{not_enabled, no_longer, is_expired}
+use Rattle.apex_base.specs.Rollbacks.{given_up, not_enabled, no_longer, is_expired}
 use Rattle.apex_base.specs.Sessions.{session_of}
 use Rattle.apex_base.specs.Windows.{is_looping}
 use Rattle.apex_world.specs.declared.calls.Changed.{Changed}
@@ -26,7 +26,6 @@ use Rattle.apex_world.specs.Trigger.{Triggered, eligible, triggered}
 use Rattle.apex_world.specs.Watching.{watches_after}
 use Rattle.apex_world.specs.World.{World, empty_world}
 use Rattle.apex_base.specs.declared.numbers.Scale.TheVariants.{Small}
-pub use Rattle.apex_base.specs.Rollbacks.{given_up}
 
 -- a session that ends in a state with a cause
 abbrev pub ended : State → Cause → Record → Record
@@ -38,28 +37,16 @@ counted w = record w { eras = w.eras ++ w.contents ∷ [] }
 
 -- 2. a revert that was asked for is completed
 abbrev pub reverted_in : State → Record → Record
-reverted_in state.Verified r = r
-reverted_in state.Staged r = r
-reverted_in state.Activated r = r
-reverted_in state.ActivationFailed r = r
-reverted_in state.Success r = r
 reverted_in state.RevertInProgress r = ended state.Reverted causes.Reverted r
-reverted_in state.Reverted r = r
-reverted_in state.Aborted r = r
+reverted_in _ r = r
 
 abbrev pub reverted : Record → Record
 reverted r = reverted_in r.state r
 
 -- 3. an activated session of another build is reverted
 abbrev pub rebuilt_in : State → Bool → Record → Record
-rebuilt_in state.Verified same r = r
-rebuilt_in state.Staged same r = r
 rebuilt_in state.Activated same r = if same then r else ended state.Reverted causes.OtherBuild r
-rebuilt_in state.ActivationFailed same r = r
-rebuilt_in state.Success same r = r
-rebuilt_in state.RevertInProgress same r = r
-rebuilt_in state.Reverted same r = r
-rebuilt_in state.Aborted same r = r
+rebuilt_in _ same r = r
 
 abbrev pub is_same_build : Image → Record → Bool
 is_same_build image r = bytes_eq r.print image.print
@@ -85,14 +72,9 @@ kept_by None r = r
 kept_by (Some cause) r = ended state.Reverted cause r
 
 abbrev pub activated_in : State → Bool → Option Cause → ℕ → Record → Record
-activated_in state.Verified same cause b r = r
 activated_in state.Staged same cause b r = if same then activated_by cause b r else ended state.ActivationFailed causes.OtherBuild r
 activated_in state.Activated same cause b r = kept_by cause r
-activated_in state.ActivationFailed same cause b r = r
-activated_in state.Success same cause b r = r
-activated_in state.RevertInProgress same cause b r = r
-activated_in state.Reverted same cause b r = r
-activated_in state.Aborted same cause b r = r
+activated_in _ same cause b r = r
 
 abbrev pub activated : Mounts → List Submission → Image → ℕ → Record → Record
 activated mounts modules image b r = activated_in r.state (is_same_build image r) (cause_of mounts modules image.modules r.parts) b r
@@ -103,14 +85,9 @@ booted mounts modules image b r = activated mounts modules image b (rebuilt imag
 
 -- 5. a rollback isn't kept for a session that has failed, nor for longer than it lives
 abbrev pub kept_in : State → Option RollbackState → Option RollbackState
-kept_in state.Verified rollback = rollback
-kept_in state.Staged rollback = rollback
-kept_in state.Activated rollback = rollback
 kept_in state.ActivationFailed rollback = not_enabled rollback
-kept_in state.Success rollback = rollback
-kept_in state.RevertInProgress rollback = rollback
 kept_in state.Reverted rollback = not_enabled rollback
-kept_in state.Aborted rollback = rollback
+kept_in _ rollback = rollback
 
 abbrev pub aged : ℕ → Record → Record
 aged t r = with_rollback (if is_expired t r then no_longer r.rollback else kept_in r.state r.rollback) r

@@ -1,10 +1,10 @@
 -- What a world holds at most: docs/sessions.md, "Limits", and docs/rows.md, "What is kept at most".
-use Rattle.std.specs.Prelude.{ℕ, ◌*◌, ◌≤◌, ◌&&◌, Bool, List, length, map, sum, if◌then◌else◌}
+use Rattle.std.specs.Prelude.{ℕ, ◌*◌, ◌≤◌, ◌&&◌, Bool, List, length, map, sum, if◌then◌else◌, ◌≡◌, refl}
 use Rattle.std.specs.List.{sum_by}
 use Rattle.std.specs.FinMap as fin
 use Rattle.apex_base.specs.declared.numbers.Scale.{Scale}
 use Rattle.apex_base.specs.declared.records.Record.{Record}
-use Rattle.apex_base.specs.Held.{is_undoable, is_available}
+use Rattle.apex_base.specs.Held.{is_undoable, is_available, examples}
 use Rattle.apex_base.specs.Members.{In}
 use Rattle.apex_base.specs.Numbers.{scale_modules, scale_file_weight, scale_data_weight, scale_units}
 use Rattle.apex_base.specs.Tables.{Table}
@@ -47,3 +47,11 @@ pub record IsWithinScale (w : World) : Type 0 where
   pub available : name_count can_be_rolled_back w.sessions ≤ scale_modules w.scale
   pub waiting : name_count is_ready_rollback w.sessions ≤ scale_modules w.scale
   pub watches : table_len w.watches ≤ 8 * scale_modules w.scale
+
+-- Worked values: of the two sessions, the second can be undone, and has one name
+
+pub one_name : name_count can_be_undone examples ≡ 1
+one_name = refl
+
+pub none_waits : name_count is_ready_rollback examples ≡ 0
+none_waits = refl

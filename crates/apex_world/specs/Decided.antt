@@ -1,6 +1,6 @@
 -- Whether a world is lawful, as a test that a program can make: docs/rows.md, "Lawful worlds". A test stands for each
 -- clause of `Lawful`, in its order.
-use Rattle.std.specs.Prelude.{ℕ, ◌+◌, ◌*◌, ◌==◌, ◌&&◌, ◌||◌, Bool, true, false, not, nat_le, nat_lt, is_some, is_none, List, [], ◌∷◌, length, map, Option, Some, None, Result, Ok, Err, if◌then◌else◌}
+use Rattle.std.specs.Prelude.{ℕ, ◌+◌, ◌*◌, ◌==◌, ◌&&◌, ◌||◌, Bool, true, false, not, nat_le, nat_lt, is_some, is_none, List, [], ◌∷◌, length, map, Option, Some, None, Result, Ok, Err, if◌then◌else◌, ◌≡◌, refl}
 use Rattle.std.specs.Cmp.Lexicographic.{pointwise}
 use Rattle.std.specs.List.{list_all, list_any}
 use Rattle.std.specs.Str.{bytes_eq}
@@ -17,7 +17,7 @@ use Rattle.apex_base.specs.declared.records.Record.{Record}
 use Rattle.apex_base.specs.declared.records.Target.{Target}
 use Rattle.apex_base.specs.declared.records.Target.TheVariants as targets
 use Rattle.apex_base.specs.Commit.{rollback_id, rolls_back, target_version, part_before}
-use Rattle.apex_base.specs.Held.{is_unfinished, is_undoable, is_available, is_standing, is_success, kept}
+use Rattle.apex_base.specs.Held.{is_unfinished, is_undoable, is_available, is_standing, is_success, kept, example, examples}
 use Rattle.apex_base.specs.Members.{each_pair}
 use Rattle.apex_base.specs.Modules.{FileMap}
 use Rattle.apex_base.specs.Numbers.{scale_modules, scale_file_weight, scale_data_weight, scale_units, version_of, millis_of}
@@ -38,6 +38,7 @@ use Rattle.apex_world.specs.Selection.{submitted_by}
 use Rattle.apex_world.specs.Soundness.{checked, manifest_in}
 use Rattle.apex_world.specs.Submit.{is_caller_id}
 use Rattle.apex_world.specs.World.{World, Contents, boots}
+use Rattle.apex_base.specs.declared.records.State.TheVariants.{Activated}
 
 -- what follows from something
 abbrev pub implies : Bool → Bool → Bool
@@ -290,3 +291,15 @@ abbrev pub is_lawful : World → Bool
 is_lawful w =
     are_in_range w && (have_ids w.sessions && (list_all has_parts w.sessions && (all_peers not_both_unfinished w.sessions && (have_activations (boots w) w.sessions
     && (list_all has_its_cause w.sessions && (have_rollbacks w.sessions && (have_rollback_sessions w.sessions && (have_modules w && (is_within_scale w && has_begun w)))))))))
+
+-- Worked values: sessions that boots 2 and 3 activated aren't lawful before any boot, and two sessions of one name can't
+-- both be undone
+
+pub no_boot_before : have_activations 0 examples ≡ false
+no_boot_before = refl
+
+pub three_boots_before : have_activations 3 examples ≡ true
+three_boots_before = refl
+
+pub two_to_undo : all_peers not_both_unfinished (example 1 Activated 2 ∷ example 2 Activated 3 ∷ []) ≡ false
+two_to_undo = refl

@@ -1,5 +1,5 @@
 -- What one thread gets from the turns of a run, from a world on.
-use Rattle.std.specs.Prelude.{ℕ, ◌-◌, ◌==◌, List, Option, Some, None, fold, flat_map, slice_get, option_and_then, if◌then◌else◌}
+use Rattle.std.specs.Prelude.{ℕ, ◌-◌, ◌==◌, List, Option, Some, None, fold, flat_map, slice_get, option_and_then, if◌then◌else◌, ◌≡◌, refl, codes, [], ◌∷◌, length}
 use Rattle.std.specs.Option.{option_map}
 use Rattle.apex_world.specs.declared.calls.Call.{Call}
 use Rattle.apex_world.specs.declared.script.Script.{Script}
@@ -9,11 +9,15 @@ use Rattle.apex_world.specs.declared.turns.Shown.TheVariants.{Booted, Replied, F
 use Rattle.apex_world.specs.declared.turns.TurnRow.{TurnRow}
 use Rattle.apex_world.specs.declared.turns.Fate.{Fate}
 use Rattle.apex_world.specs.declared.turns.Fate.TheVariants.{Answered, Kept, Lost, Open, Closed, NoMemory, Full}
-use Rattle.apex_world.specs.World.{World}
+use Rattle.apex_world.specs.World.{World, empty_world}
 use Rattle.apex_world.specs.Selection.{all_mount_but}
 use Rattle.apex_world.specs.Boot.{boot_world, boot_reply}
 use Rattle.apex_world.specs.Step.{step}
 use Rattle.apex_world.specs.Turns.{lane_calls, is_boot}
+use Rattle.apex_base.specs.declared.numbers.Scale.TheVariants.{Small}
+use Rattle.apex_base.specs.declared.refusal.Refusal.TheVariants.{NoSession}
+use Rattle.apex_world.specs.declared.calls.Call.TheVariants as calls
+use Rattle.apex_world.specs.declared.calls.Reply.TheVariants as replies
 
 -- the world after a turn, and what the turn shows
 pub record Turned : Type 0 where
@@ -64,3 +68,33 @@ turn script w row = turned_at w row.fate (event_at script row)
 -- the world after the turns
 abbrev pub world_after : Script → World → List TurnRow → World
 world_after script w rows = fold (λ w row. (turn script w row).world) w rows
+
+-- Worked values: an empty image is booted, and a call for a session that isn't there is refused. Turns that were lost
+-- change nothing
+
+abbrev pub example : Script
+example = record {
+  scale = Small;
+  boots = record {
+    order = record { scale = Small; image = record { print = codes "P"; modules = [] }; observers = []; time = 0 };
+    mounts = [];
+    workers = 1;
+    cut = None;
+    segments = record { cut = None; lanes = record { number = 0; calls = calls.Ready (record { 0 = 1 }) ∷ [] } ∷ [] } ∷ [];
+  } ∷ [];
+}
+
+abbrev pub example_turn : ℕ → Fate → TurnRow
+example_turn step fate = record { boot = 1; lane = 0; step = step; fate = fate }
+
+pub refused : (turn example (empty_world Small) (example_turn 1 Answered)).shown ≡ Replied (replies.Refused (NoSession (record { 0 = 1 })))
+unfolding turn
+refused = refl
+
+pub one_boot : length (world_after example (empty_world Small) (example_turn 0 Answered ∷ example_turn 1 Answered ∷ [])).eras ≡ 1
+unfolding turn
+one_boot = refl
+
+pub lost : length (world_after example (empty_world Small) (example_turn 0 Lost ∷ [])).eras ≡ 0
+unfolding turn
+lost = refl

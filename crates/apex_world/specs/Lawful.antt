@@ -97,12 +97,9 @@ NotBothUnfinished r s = is_unfinished r.state ≡ true → is_unfinished s.state
 abbrev pub never_activated : State → Bool
 never_activated state.Verified = true
 never_activated state.Staged = true
-never_activated state.Activated = false
 never_activated state.ActivationFailed = true
-never_activated state.Success = false
-never_activated state.RevertInProgress = false
-never_activated state.Reverted = false
 never_activated state.Aborted = true
+never_activated _ = false
 
 pub record HasActivation (boots : ℕ) (r : Record) : Type 0 where
   pub none : never_activated r.state ≡ true → r.activation ≡ 0
@@ -125,14 +122,9 @@ pub record HaveActivations (boots : ℕ) (sessions : List Record) : Type 0 where
 
 -- 5. Causes: a session that failed or was reverted has one, and no other does
 abbrev pub has_cause : State → Bool
-has_cause state.Verified = false
-has_cause state.Staged = false
-has_cause state.Activated = false
 has_cause state.ActivationFailed = true
-has_cause state.Success = false
-has_cause state.RevertInProgress = false
 has_cause state.Reverted = true
-has_cause state.Aborted = false
+has_cause _ = false
 
 -- 6. Rollbacks
 
@@ -157,13 +149,7 @@ pub record HaveRollbacks (sessions : List Record) : Type 0 where
 
 abbrev pub is_verified : State → Bool
 is_verified state.Verified = true
-is_verified state.Staged = false
-is_verified state.Activated = false
-is_verified state.ActivationFailed = false
-is_verified state.Success = false
-is_verified state.RevertInProgress = false
-is_verified state.Reverted = false
-is_verified state.Aborted = false
+is_verified _ = false
 
 -- r is what the rollback of x makes
 pub record IsRollbackSession (sessions : List Record) (x r : Record) : Type 0 where

@@ -8,7 +8,7 @@ pub mod Decided
 pub mod Fold
 pub mod Follows
 pub mod Forms
-pub mod Given
+pub mod Invariance
 pub mod Lawful
 pub mod Likeness
 pub mod Limits
@@ -21,6 +21,7 @@ pub mod Restore
 pub mod RollbackData
 pub mod RowLaws
 pub mod Rows
+pub mod RowsAfter
 pub mod Running
 pub mod Segments
 pub mod Selection

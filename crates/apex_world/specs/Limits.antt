@@ -1,5 +1,5 @@
 -- How much a world has used of its scale: docs/sessions.md, "Limits".
-use Rattle.std.specs.Prelude.{ℕ, List, if◌then◌else◌}
+use Rattle.std.specs.Prelude.{ℕ, List, if◌then◌else◌, ◌≡◌, refl, codes, [], ◌∷◌, None}
 use Rattle.std.specs.List.{sum_by}
 use Rattle.apex_base.specs.declared.records.Kind.{Kind}
 use Rattle.apex_base.specs.declared.records.Kind.TheVariants.{Plain, WithRollback, RollbackOf}
@@ -8,7 +8,9 @@ use Rattle.apex_base.specs.declared.records.Target.{Target}
 use Rattle.apex_base.specs.Held.{is_target, kept}
 use Rattle.apex_base.specs.Modules.{module_weight}
 use Rattle.apex_world.specs.declared.world.Submission.{Submission}
-use Rattle.apex_world.specs.World.{World}
+use Rattle.apex_world.specs.World.{World, empty_world}
+use Rattle.apex_base.specs.declared.numbers.Scale.TheVariants.{Small}
+use Rattle.apex_base.specs.declared.records.State.TheVariants.{Aborted}
 
 -- a session counts one unit, and one with rollback two; the session that a rollback made counts none
 abbrev pub kind_units : Kind → ℕ
@@ -33,3 +35,25 @@ units w = units_of w.sessions
 
 abbrev pub weight : World → ℕ
 weight w = weight_of w.sessions w.modules
+
+-- Worked values: a plain session, one with rollback and the session that the rollback made count three units together
+
+abbrev pub example : ℕ → Kind → Record
+example n kind = record {
+  id = record { 0 = n };
+  children = [];
+  kind = kind;
+  parts = [];
+  print = codes "P";
+  state = Aborted;
+  cause = None;
+  activation = 0;
+  rollback = None;
+  moment = 0;
+}
+
+pub three_units : units_of (example 1 Plain ∷ example 2 WithRollback ∷ example 1073741826 (RollbackOf (record { 0 = 2 })) ∷ []) ≡ 3
+three_units = refl
+
+pub no_weight : weight (empty_world Small) ≡ 0
+no_weight = refl

@@ -16,7 +16,8 @@ use Rattle.apex_base.specs.Held.{is_undoable, is_standing, held, before, kept, i
 use Rattle.apex_base.specs.Keys.{Key, Boots, RecordOf, ActiveOf, BackupOf, FileOf, DataOf, SnapshotOf, PreRestoreOf, WatchOf, RowMap, rows_by}
 use Rattle.apex_base.specs.Reading.{four_text, eight_text}
 use Rattle.apex_base.specs.Sessions.{names, session_of}
-use Rattle.apex_base.specs.Spelling.{target_text, record_text}
+pub use Rattle.apex_base.specs.Settled.{stands_for, active_of, is_undoable_for, backup_of}
+use Rattle.apex_base.specs.Spelling.{record_text}
 use Rattle.apex_base.specs.Tables.{Table, part_of, value_of}
 use Rattle.apex_base.specs.Windows.{last_five}
 use Rattle.apex_world.specs.declared.world.Submission.{Submission}
@@ -42,19 +43,13 @@ record_row w id = option_map record_text (session_of w.sessions id)
 
 -- 3. the target that a name holds, where a session that stands names it
 
-abbrev pub stands_for : List ℕ → Record → Bool
-stands_for name r = is_standing r.state && names name r
-
 abbrev pub active_row : World → List ℕ → Option (List ℕ)
-active_row w name = if list_any (stands_for name) w.sessions then Some (target_text (held w.sessions name) []) else None
+active_row w name = active_of w.sessions name
 
 -- 4. the target that it held before the session that can still be undone
 
-abbrev pub is_undoable_for : List ℕ → Record → Bool
-is_undoable_for name r = is_undoable r.state && names name r
-
 abbrev pub backup_row : World → List ℕ → Option (List ℕ)
-backup_row w name = option_map (λ r. target_text (before w.sessions r name) []) (find (is_undoable_for name) w.sessions)
+backup_row w name = backup_of w.sessions name
 
 -- 5. a file of a module that is kept
 
@@ -69,14 +64,8 @@ data_row w name key = value_of w.contents name key
 -- 7. a value that a name had before a session that may be rolled back
 
 abbrev pub is_staged : State → Bool
-is_staged state.Verified = false
 is_staged state.Staged = true
-is_staged state.Activated = false
-is_staged state.ActivationFailed = false
-is_staged state.Success = false
-is_staged state.RevertInProgress = false
-is_staged state.Reverted = false
-is_staged state.Aborted = false
+is_staged _ = false
 
 abbrev pub is_staged_session : Option Record → Bool
 is_staged_session None = false
@@ -103,9 +92,8 @@ snapshot_row w id name key = option_and_then (λ r. if has_snapshot w.sessions r
 -- 8. a value that a name had before a rollback session that can still be undone
 
 abbrev pub undoes : Kind → Bool
-undoes Plain = false
-undoes WithRollback = false
 undoes (RollbackOf x) = true
+undoes _ = false
 
 abbrev pub has_pre_restore : Record → Bool
 has_pre_restore r = undoes r.kind && is_undoable r.state

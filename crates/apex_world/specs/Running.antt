@@ -19,14 +19,8 @@ use Rattle.apex_world.specs.Submit.{in_running}
 use Rattle.apex_world.specs.World.{World, empty_world}
 
 abbrev pub is_activated : State → Bool
-is_activated state.Verified = false
-is_activated state.Staged = false
 is_activated state.Activated = true
-is_activated state.ActivationFailed = false
-is_activated state.Success = false
-is_activated state.RevertInProgress = false
-is_activated state.Reverted = false
-is_activated state.Aborted = false
+is_activated _ = false
 
 -- a session whose names the running image has
 abbrev pub is_of_image : Record → Bool

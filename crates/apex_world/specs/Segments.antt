@@ -6,8 +6,8 @@ use Rattle.apex_world.specs.declared.script.Segment.{Segment}
 use Rattle.apex_world.specs.declared.segments.Placed.{Placed}
 use Rattle.apex_world.specs.declared.segments.Placed.TheVariants as placed
 use Rattle.apex_world.specs.declared.segments.SingleSubmit.{SingleSubmit}
-use Rattle.apex_world.specs.declared.segments.Step.{Step}
-use Rattle.apex_world.specs.declared.segments.Step.TheVariants.{Submit, Ready, Abort, Success, StateOf, Other, Lanes}
+use Rattle.apex_world.specs.declared.segments.SegmentForm.{SegmentForm}
+use Rattle.apex_world.specs.declared.segments.SegmentForm.TheVariants.{Submit, Ready, Abort, Success, StateOf, Other, Lanes}
 use Rattle.apex_world.specs.Calls.{call_at}
 
 -- a segment of one call on lane 0
@@ -18,7 +18,7 @@ abbrev pub single_submit : SingleSubmit → Call
 single_submit s = calls.Submit s.id [] s.rollback (s.part ∷ [])
 
 -- the segment that stands in memory so
-abbrev pub segment_of : Step → Segment
+abbrev pub segment_of : SegmentForm → Segment
 segment_of (Submit submit) = plain_segment (single_submit submit.value)
 segment_of (Ready id) = plain_segment (calls.Ready id)
 segment_of (Abort id) = plain_segment (calls.Abort id)

@@ -1,6 +1,6 @@
 -- Which module of a name works, and which a boot chooses: docs/boot.md, "Selection"
 -- (AOSP's apexd.cpp, SelectApexForActivation).
-use Rattle.std.specs.Prelude.{ℕ, ◌&&◌, ◌==◌, Bool, true, false, not, nat_lt, is_none, List, [], ◌∷◌, Option, Some, None, find, fold, if◌then◌else◌}
+use Rattle.std.specs.Prelude.{ℕ, ◌&&◌, ◌==◌, Bool, true, false, not, nat_lt, is_none, List, [], ◌∷◌, Option, Some, None, find, fold, if◌then◌else◌, ◌≡◌, refl, codes}
 use Rattle.std.specs.List.{list_any}
 use Rattle.std.specs.Option.{option_map}
 use Rattle.std.specs.Ordering.{is_lt, nat_cmp}
@@ -23,6 +23,7 @@ use Rattle.apex_base.specs.Modules.{FileMap}
 use Rattle.apex_world.specs.declared.modules.Package.{Package}
 use Rattle.apex_world.specs.declared.world.Submission.{Submission}
 use Rattle.apex_world.specs.Soundness.{is_sound, is_same_key}
+use Rattle.std.specs.FinMap as fin
 
 -- whether a module of this name, version and place mounts
 abbrev pub Mounts : Type 0
@@ -106,3 +107,17 @@ is_same_place Pre Pre = true
 -- all modules mount but those of a list
 abbrev pub all_mount_but : List (Place × List ℕ × ℕ) → Mounts
 all_mount_but modules name version place = not (list_any (λ m. is_same_place m.0 place && bytes_eq m.1 name && (m.2 == version)) modules)
+
+-- Worked values: beside an image that has no module of the name, or one of a greater version
+
+abbrev pub example : ℕ → Package
+example version = record { name = codes "a"; version = version; content = fin.empty }
+
+abbrev pub all_mount : Mounts
+all_mount name version place = true
+
+pub not_there : case_beside all_mount [] targets.Preinstalled None ≡ Some NotInImage
+not_there = refl
+
+pub too_old : data_case all_mount fin.empty 4 (example 5) ≡ Some BelowPreinstalled
+too_old = refl

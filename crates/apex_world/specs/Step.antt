@@ -9,7 +9,7 @@ use Rattle.apex_world.specs.Report.{commit, report}
 use Rattle.apex_world.specs.Submit.{submitted}
 use Rattle.apex_world.specs.Watching.{watch}
 use Rattle.apex_world.specs.World.{World}
-pub use Rattle.apex_world.specs.Advance.{rollback_after, move_to, move_found, move_session, ready, abort, success, revert, told, state_of}
+pub use Rattle.apex_world.specs.Advance.{move_to, move_found, move_session, ready, abort, success, revert, told, state_of}
 pub use Rattle.apex_world.specs.Stepped.{Stepped, refused, done, replied}
 
 abbrev pub submit : World → SessionId → List SessionId → Bool → List FileMap → Stepped

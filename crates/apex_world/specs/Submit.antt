@@ -1,6 +1,6 @@
 -- Which submits are refused, and why: docs/calls.md, "Submit". A refusal is a definition of its own, in the order
 -- in which they are judged.
-use Rattle.std.specs.Prelude.{ℕ, ◌+◌, ◌==◌, ◌&&◌, ◌||◌, Bool, true, false, nat_le, nat_lt, is_some, List, [], ◌∷◌, ◌++◌, length, Option, Some, None, Result, Ok, Err, find, option_and_then, if◌then◌else◌}
+use Rattle.std.specs.Prelude.{ℕ, ◌+◌, ◌==◌, ◌&&◌, ◌||◌, Bool, true, false, nat_le, nat_lt, is_some, List, [], ◌∷◌, ◌++◌, length, Option, Some, None, Result, Ok, Err, find, option_and_then, if◌then◌else◌, ◌≡◌, refl}
 use Rattle.std.specs.List.{list_any}
 use Rattle.std.specs.Option.{option_map}
 use Rattle.std.specs.Str.{bytes_eq}
@@ -29,7 +29,8 @@ use Rattle.apex_world.specs.Limits.{units, weight}
 use Rattle.apex_world.specs.Selection.{preinstalled}
 use Rattle.apex_world.specs.Sessions.{has_id, names, with_session}
 use Rattle.apex_world.specs.Soundness.{checked, is_same_key}
-use Rattle.apex_world.specs.World.{World}
+use Rattle.apex_world.specs.World.{World, empty_world}
+use Rattle.apex_base.specs.declared.numbers.Scale.TheVariants.{Small}
 
 -- 1. the first id that no caller may give
 
@@ -219,3 +220,14 @@ within_scale w = do
 -- the world with the new session, or why there is none
 abbrev pub submitted : World → SessionId → List SessionId → Bool → List FileMap → Result World Refusal
 submitted w id children rollback parts = admitted w id children parts >>= λ packages. within_scale (entered w id children rollback packages)
+
+-- Worked values: an id that no caller may give is refused before the number of parts
+
+abbrev pub submit_of : ℕ → List FileMap → Result World Refusal
+submit_of id parts = submitted (empty_world Small) (record { 0 = id }) [] false parts
+
+pub no_id : submit_of 0 [] ≡ Err (IdRange (record { 0 = 0 }))
+no_id = refl
+
+pub no_parts : submit_of 1 [] ≡ Err (Parts 0)
+no_parts = refl

@@ -1,5 +1,5 @@
 -- The text of a run: docs/formats/text.md.
-use Rattle.std.specs.Prelude.{ℕ, List, [], ◌∷◌, ◌++◌, length, Option, Some, None, codes, flat_map}
+use Rattle.std.specs.Prelude.{ℕ, List, [], ◌∷◌, ◌++◌, length, Option, Some, None, codes, flat_map, ◌≡◌, refl}
 use Rattle.std.specs.Fmt.{decimal}
 use Rattle.hex.specs.Hex.{encode_lower}
 use Rattle.apex_base.specs.declared.numbers.SessionId.{SessionId}
@@ -193,3 +193,16 @@ text w script rows = lines_from script w rows ++ end_line rows
 -- what `play` writes: the text of the turns, from an empty device on
 abbrev pub out : Script → List TurnRow → List ℕ
 out script rows = text (empty_world script.scale) script rows
+
+-- Worked values: the answer to a question for a state, a name whose module is missing, and a boot loop at which nobody acts
+
+pub state_told : reply_text (replies.State state.Success (Some rollbacks.Available)) ≡ codes "state SUCCESS rollback AVAILABLE"
+unfolding reply_text
+state_told = refl
+
+pub missing : pick_line (record { name = codes "a"; chosen = None }) ≡ codes "missing a\n"
+unfolding pick_line
+missing = refl
+
+pub nobody_acts : loop_text (Some (None, [])) ≡ codes "loop -\n"
+nobody_acts = refl

@@ -1,5 +1,5 @@
 -- Which turns a script may have, and in which order: docs/formats/text.md, "Turns".
-use Rattle.std.specs.Prelude.{◌≡◌, ◌≢◌, ◌⊎◌, ◌↔◌, ℕ, ◌+◌, ◌==◌, ◌&&◌, Bool, true, false, IsTrue, List, [], ◌∷◌, ◌++◌, length, map, filter, flat_map, if◌then◌else◌}
+use Rattle.std.specs.Prelude.{◌≡◌, ◌≢◌, ◌⊎◌, ◌↔◌, ℕ, ◌+◌, ◌==◌, ◌&&◌, Bool, true, false, IsTrue, List, [], ◌∷◌, ◌++◌, length, map, filter, flat_map, if◌then◌else◌, refl}
 use Rattle.std.specs.List.{list_any}
 use Rattle.apex_base.specs.Outside.{IsFront}
 use Rattle.apex_world.specs.declared.calls.Call.{Call}
@@ -10,6 +10,7 @@ use Rattle.apex_world.specs.declared.script.Script.{Script}
 use Rattle.apex_world.specs.declared.turns.Fate.{Fate}
 use Rattle.apex_world.specs.declared.turns.Fate.TheVariants.{Answered, Kept, Lost, Open, Closed, NoMemory, Full}
 use Rattle.apex_world.specs.declared.turns.TurnRow.{TurnRow}
+use Rattle.apex_world.specs.declared.calls.Call.TheVariants as calls
 
 -- The steps of a script
 
@@ -76,22 +77,14 @@ AreInRounds (round ∷ rs) turns =
 -- The fates of turns
 
 abbrev pub is_faulted : Fate → Bool
-is_faulted Answered = false
 is_faulted Kept = true
 is_faulted Lost = true
 is_faulted Open = true
-is_faulted Closed = false
-is_faulted NoMemory = false
-is_faulted Full = false
+is_faulted _ = false
 
 abbrev pub is_open : Fate → Bool
-is_open Answered = false
-is_open Kept = false
-is_open Lost = false
 is_open Open = true
-is_open Closed = false
-is_open NoMemory = false
-is_open Full = false
+is_open _ = false
 
 abbrev pub is_boot : TurnRow → Bool
 is_boot row = (row.lane == 0) && (row.step == 0)
@@ -125,3 +118,14 @@ pub record Fits (script : Script) (rows : List TurnRow) : Type 0 where
 pub record IsInOrder (script : Script) (rows : List TurnRow) : Type 0 where
   pub begins : Begins script rows
   pub in_blocks : IsFront (map position_of rows) (positions script)
+
+-- Worked values: a boot and two calls of lane 0; the second call is its second step
+
+abbrev pub example_lane : Lane
+example_lane = record { number = 0; calls = calls.Revert ∷ calls.Revert ∷ [] }
+
+pub two_calls : block_positions 1 [] (example_lane ∷ []) ≡ record { boot = 1; lane = 0; step = 1 } ∷ record { boot = 1; lane = 0; step = 2 } ∷ []
+two_calls = refl
+
+pub third_call : block_positions 1 (example_lane ∷ []) (record example_lane { calls = calls.Revert ∷ [] } ∷ []) ≡ record { boot = 1; lane = 0; step = 3 } ∷ []
+third_call = refl

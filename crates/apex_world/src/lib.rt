@@ -29,7 +29,7 @@ pub use row_laws::{
     rows_open_to_their_world, same_rows_store_the_same,
 };
 pub use script::{BootList, CallList, Cut, Lane, LaneList, MountList, Script, ScriptBoot, Segment};
-pub use segments::{Placed, SegmentList, SingleSubmit, Step};
+pub use segments::{Placed, SegmentForm, SegmentList, SingleSubmit};
 pub use turns::{Fate, Shown, TurnRow, Turns};
 pub use world::Submission;
 

@@ -20,7 +20,7 @@ pub struct SingleSubmit {
 
 /// How a segment is kept in memory. The common calls outside lane blocks have forms of their own.
 #[derive(Drop)]
-pub enum Step {
+pub enum SegmentForm {
     Submit(Box<SingleSubmit>),
     Ready { id: SessionId },
     Abort { id: SessionId },
@@ -32,7 +32,7 @@ pub enum Step {
     Lanes(Box<Segment>),
 }
 
-const _: () = prove!(size_of::<Step>() == 16);
+const _: () = prove!(size_of::<SegmentForm>() == 16);
 
 /// A borrowed segment: one call outside lane blocks, or lanes.
 #[derive(Clone, Copy)]
@@ -54,22 +54,22 @@ impl SingleSubmit {
     }
 }
 
-impl Step {
+impl SegmentForm {
     /// The segment, borrowed.
     pub fn placed(&self) -> Placed<'_>
         ensures { segment_at result ≡ segment_of self.now }
     {
         match self {
-            Step::Submit(submit) => Placed::Plain(submit.borrowed()),
-            Step::Ready { id } => Placed::Plain(CallRef::Ready { id: *id }),
-            Step::Abort { id } => Placed::Plain(CallRef::Abort { id: *id }),
-            Step::Success { id, time } => Placed::Plain(CallRef::Success {
+            SegmentForm::Submit(submit) => Placed::Plain(submit.borrowed()),
+            SegmentForm::Ready { id } => Placed::Plain(CallRef::Ready { id: *id }),
+            SegmentForm::Abort { id } => Placed::Plain(CallRef::Abort { id: *id }),
+            SegmentForm::Success { id, time } => Placed::Plain(CallRef::Success {
                 time: *time,
                 id: *id,
             }),
-            Step::StateOf { id } => Placed::Plain(CallRef::StateOf { id: *id }),
-            Step::Other(call) => Placed::Plain(call.borrowed()),
-            Step::Lanes(segment) => Placed::Lanes(segment),
+            SegmentForm::StateOf { id } => Placed::Plain(CallRef::StateOf { id: *id }),
+            SegmentForm::Other(call) => Placed::Plain(call.borrowed()),
+            SegmentForm::Lanes(segment) => Placed::Lanes(segment),
         }
     }
 }
@@ -77,7 +77,7 @@ impl Step {
 /// Segments, seen as a list.
 #[derive(Drop)]
 pub struct SegmentList {
-    steps: Vec<Step>,
+    forms: Vec<SegmentForm>,
 }
 
 impl Model for SegmentList {
@@ -91,7 +91,7 @@ impl Model for SegmentList {
 
     ghost coded = { coded_list segment.the_row.coded };
 
-    ghost view = { λ list. map segment_of list.steps.items };
+    ghost view = { λ list. map segment_of list.forms.items };
 }
 
 impl SegmentList {
@@ -100,22 +100,22 @@ impl SegmentList {
         ensures { result ≡ [] }
     {
         SegmentList {
-            steps: Vec::new(alloc),
+            forms: Vec::new(alloc),
         }
     }
 
     /// Adds a segment at the end. Fails only if memory runs out; the list may then hold anything.
-    pub fn push(&mut self, step: Step) -> Result<(), AllocError>
-        ensures { OnOk result (self.new ≡ self.old ++ segment_of step ∷ []) }
+    pub fn push(&mut self, form: SegmentForm) -> Result<(), AllocError>
+        ensures { OnOk result (self.new ≡ self.old ++ segment_of form ∷ []) }
     {
-        self.steps.push(step)?;
+        self.forms.push(form)?;
         Ok(())
     }
 
     /// The segments as they are kept in memory.
-    pub fn steps(&self) -> &[Step]
+    pub fn forms(&self) -> &[SegmentForm]
         ensures { map segment_of result.now ≡ self.now }
     {
-        &self.steps
+        &self.forms
     }
 }

@@ -2,16 +2,16 @@
 use Rattle.std.proofs.Common.{◌≡◌, ℕ, ◌<◌, List, length, get_or, map, sym, ap, ◌∙◌, arith}
 use Rattle.std.proofs.lemmas.List.{get_or-map, length-map}
 use Rattle.apex_world.specs.declared.script.Segment.{Segment}
-use Rattle.apex_world.specs.declared.segments.Step.{Step}
+use Rattle.apex_world.specs.declared.segments.SegmentForm.{SegmentForm}
 use Rattle.apex_world.specs.Segments.{segment_of}
 
 -- there are as many segments as forms
-pub few_of : (steps : List Step) (xs : List Segment) (i : ℕ) → map segment_of steps ≡ xs → i < length steps
+pub few_of : (steps : List SegmentForm) (xs : List Segment) (i : ℕ) → map segment_of steps ≡ xs → i < length steps
     → i < length xs
 few_of steps xs i same lt = omega (arith, lt, ap length same, length-map steps segment_of)
 
 -- and each form is that of its segment
-pub step_at : (steps : List Step) (xs : List Segment) (i : ℕ) (step : Step) → map segment_of steps ≡ xs
+pub step_at : (steps : List SegmentForm) (xs : List Segment) (i : ℕ) (step : SegmentForm) → map segment_of steps ≡ xs
     → i < length steps → step ≡ get_or steps i step → segment_of step ≡ get_or xs i (segment_of step)
 step_at steps xs i step same lt here =
     ap segment_of here ∙ sym (get_or-map segment_of steps i step (segment_of step) lt)

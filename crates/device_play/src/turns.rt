@@ -1,7 +1,7 @@
 //! Plays the turns of a script, the lanes of a segment one after the other.
 use crate::run::Run;
 use apex_base::Sink;
-use apex_world::{CallRef, Fate, Lane, Placed, Script, ScriptBoot, Segment, Step, TurnRow};
+use apex_world::{CallRef, Fate, Lane, Placed, Script, ScriptBoot, Segment, SegmentForm, TurnRow};
 use play_text::PutFailed;
 use std::alloc::Global;
 
@@ -123,7 +123,7 @@ impl Run {
         ensures within { IsOk result → IsWithinScale self.new.world }
     {
         let mut steps = [0; LANES];
-        for (at, step) in boot.segments.steps().iter().enumerate() {
+        for (at, step) in boot.segments.forms().iter().enumerate() {
             self.play_step(alloc, sink, number, &mut steps, boot, at, step)?;
         }
         Ok(())
@@ -138,7 +138,7 @@ impl Run {
         steps: &mut [u32; LANES],
         boot: &ScriptBoot,
         at: usize,
-        step: &Step,
+        step: &SegmentForm,
     ) -> Result<(), PutFailed>
         requires playable { IsPlayableBoot (2 ^ 32) boot.now }
         requires place { at < length boot.now.segments }

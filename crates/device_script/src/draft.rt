@@ -16,7 +16,7 @@ use crate::line::{
 };
 use crate::words::cut_word;
 use apex_base::{Listed, Scale, Shared};
-use apex_world::{BootList, Image, Script, ScriptBoot, Step};
+use apex_world::{BootList, Image, Script, ScriptBoot, SegmentForm};
 use std::alloc::Global;
 
 /// What the lines so far have made: the scale, the last image, the boots that are done, the boot that calls
@@ -149,19 +149,19 @@ impl Draft {
             Keyword::Submit => self.read_submit(alloc, rest),
             Keyword::Ready => {
                 let id = id_words(rest)?;
-                self.take_step(Step::Ready { id })
+                self.take_step(SegmentForm::Ready { id })
             }
             Keyword::Abort => {
                 let id = id_words(rest)?;
-                self.take_step(Step::Abort { id })
+                self.take_step(SegmentForm::Abort { id })
             }
             Keyword::Success => {
                 let (time, id) = success_words(rest)?;
-                self.take_step(Step::Success { id, time })
+                self.take_step(SegmentForm::Success { id, time })
             }
             Keyword::State => {
                 let id = id_words(rest)?;
-                self.take_step(Step::StateOf { id })
+                self.take_step(SegmentForm::StateOf { id })
             }
             Keyword::Module => {
                 let label = label_words(rest)?;

@@ -63,7 +63,7 @@ pub fn boot_text(alloc: Global, boot: &ScriptBoot) -> Result<String, Fail> {
         text.push_str(" ")?;
         text.push_str(&module_text(alloc, &part.name, part.version)?)?;
     }
-    for step in boot.segments.steps() {
+    for step in boot.segments.forms() {
         let call = match step.placed() {
             Placed::Plain(call) => call_text(alloc, &call)?,
             Placed::Lanes(_) => format!(in alloc; "no line makes lanes")?,

@@ -5,7 +5,7 @@ ghost use Rattle.std.specs.List.{list_all};
 ghost use Rattle.std.specs.Option.{option_copied};
 ghost use Rattle.apex_base.specs.declared.records.Record.{Record};
 ghost use Rattle.apex_world.specs.Selection.{preinstalled};
-ghost use Rattle.apex_world.specs.Boot.{ended, reverted, given_up, keeps_rollback, rebuilt_in, rebuilt, activated};
+ghost use Rattle.apex_world.specs.Boot.{ended, reverted, keeps_rollback, rebuilt_in, rebuilt, activated};
 ghost use Rattle.apex_world.specs.Boot.{booted, changed_to};
 ghost use Rattle.apex_world.specs.Plain.{plain_changes};
 ghost use Rattle.apex_world.specs.Sessions.{has_id, session_of, with_session};
@@ -78,7 +78,7 @@ fn rebuild(r: &mut Record, image: &Image)
     ensures { r.new ≡ rebuilt image.now r.old }
 {
     if !keeps_rollback(image, r) {
-        r.rollback = given_up(r.rollback);
+        r.rollback = RollbackState::given_up(r.rollback);
     }
     match r.state {
         State::Activated => {
@@ -151,15 +151,4 @@ fn has_all_names(image: &[Package], parts: &[Part]) -> bool
     ensures { result ≡ list_all (λ p. is_some (preinstalled image.now p.name)) parts.now }
 {
     parts.iter().all(|p| preinstalled(image, &p.name).is_some())
-}
-
-fn given_up(rollback: Option<RollbackState>) -> Option<RollbackState>
-    ensures { result ≡ given_up rollback }
-{
-    match rollback {
-        Some(RollbackState::Enabling | RollbackState::Available) => Some(RollbackState::Deleted),
-        Some(RollbackState::Committed) => Some(RollbackState::Committed),
-        Some(RollbackState::Deleted) => Some(RollbackState::Deleted),
-        None => None,
-    }
 }

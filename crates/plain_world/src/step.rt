@@ -1,10 +1,9 @@
 //! What `ready`, `abort`, `success` and `state` do: `docs/calls.md`.
 ghost use Rattle.std.specs.Prelude.{◌≡◌, max};
-ghost use Rattle.apex_world.specs.Step.{rollback_after};
 
 use crate::sessions::{place_of, session_with};
 use crate::world::PlainWorld;
-use apex_base::{Millis, Move, Refusal, RollbackState, SessionId, moved};
+use apex_base::{Millis, Move, Refusal, SessionId, moved, rollback_after};
 use apex_world::Reply;
 
 impl PlainWorld {
@@ -13,10 +12,10 @@ impl PlainWorld {
     ghost use Rattle.plain_world.specs.Plain.{world_of, boots_of, IsWithinScale};
 
     /// Moves the session of an id, and raises the clock to a moment.
-    pub(crate) fn advance(&mut self, clock: Millis, id: SessionId, step: Move) -> Reply
+    pub(crate) fn advance(&mut self, clock: Millis, id: SessionId, by: Move) -> Reply
         requires { IsWithinScale self.old }
-        ensures reply { result ≡ (move_session (world_of self.old) clock id step).reply }
-        ensures world { world_of self.new ≡ (move_session (world_of self.old) clock id step).world }
+        ensures reply { result ≡ (move_session (world_of self.old) clock id by).reply }
+        ensures world { world_of self.new ≡ (move_session (world_of self.old) clock id by).world }
         ensures boots { boots_of self.new ≡ boots_of self.old }
         ensures within { IsWithinScale self.new }
     {
@@ -24,12 +23,12 @@ impl PlainWorld {
             return Reply::Refused(Refusal::NoSession { id });
         };
         let state = self.sessions[i].state;
-        match moved(state, step) {
+        match moved(state, by) {
             None => Reply::Refused(Refusal::BadState { state }),
             Some(state) => {
                 let r = &mut self.sessions[i];
                 r.state = state;
-                r.rollback = rollback_after(step, r.rollback);
+                r.rollback = rollback_after(by, r.rollback);
                 self.clock = clock;
                 Reply::Done
             }
@@ -63,13 +62,4 @@ fn later_of(a: Millis, b: Millis) -> Millis
     ensures { result ≡ max a b }
 {
     if a.number() < b.number() { b } else { a }
-}
-
-fn rollback_after(step: Move, rollback: Option<RollbackState>) -> Option<RollbackState>
-    ensures { result ≡ rollback_after step rollback }
-{
-    match (step, rollback) {
-        (Move::Abort, Some(RollbackState::Enabling)) => Some(RollbackState::Deleted),
-        _ => rollback,
-    }
 }

@@ -1,7 +1,4 @@
 mod Batches
 mod Commits
-mod Entries
-mod Maps
 mod Once
 mod Opened
-mod Rooms

@@ -1,28 +1,11 @@
--- Rows, and what batches make of them: docs/formats/batches.md, "A store".
+-- What a store holds, and what batches make of it: docs/formats/batches.md, "A store".
 use Rattle.std.specs.Prelude.{◌≡◌, ℕ, ◌+◌, ◌==◌, Bool, true, false, List, [], ◌∷◌, length, map, Option, Some, None, IsSome, Result, Ok, Err, if◌then◌else◌}
-use Rattle.std.specs.Cmp.Lexicographic.{slice_cmp}
-use Rattle.std.specs.Ordering.{nat_cmp}
 use Rattle.std.specs.FinMap as fin
-use Rattle.std.specs.declared.vec.Vec.{Vec}
-use Rattle.std.specs.declared.alloc.Global.{Global}
 use Rattle.row_codec.specs.declared.batch.Batch.{Batch}
 use Rattle.row_codec.specs.declared.batch.Row.{Row}
 use Rattle.row_codec.specs.Batch.{batch_of}
 use Rattle.apex_journal.specs.Records.{block}
-
--- values by their keys
-abbrev pub RowMap : Type 0
-RowMap = fin.FinMap (slice_cmp nat_cmp) (List ℕ)
-
--- with this value at the key, or none
-abbrev pub changed_at : RowMap → List ℕ → Option (List ℕ) → RowMap
-changed_at m key None = fin.remove m key
-changed_at m key (Some value) = fin.insert m key value
-
--- with the rows of a batch, in order
-abbrev pub changed : RowMap → List Row → RowMap
-changed m [] = m
-changed m (row ∷ rows) = changed (changed_at m row.key row.value) rows
+pub use Rattle.row_map.specs.Rows.{RowMap, changed_at, changed}
 
 -- what a store holds: its rows, and the number of its last batch
 pub record Held : Type 0 where
@@ -81,10 +64,3 @@ abbrev pub held_from : Option Held → List (List ℕ) → Result Held ℕ
 held_from so_far [] = Ok (held_by so_far)
 held_from so_far (bytes ∷ records) =
     unless_bad (held_after so_far bytes) (λ held. farther (length (block bytes)) (held_from (Some held) records))
-
--- the entries of a `BTreeMap` of rows, as keys and values
-abbrev pub shown : List (Vec ℕ Global × List ℕ) → List (List ℕ × List ℕ)
-shown entries = map (λ entry. (entry.0.items, entry.1)) entries
-
-abbrev pub rows_of : List (Vec ℕ Global × List ℕ) → RowMap
-rows_of entries = fin.from_entries (shown entries)

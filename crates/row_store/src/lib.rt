@@ -4,14 +4,12 @@
 mod laws;
 mod opening;
 mod reading;
-mod room;
-mod rows;
 mod store;
 #[cfg(test)]
 mod tests;
 mod why;
 
 pub use laws::{numbers_tell_rows, rows_are_one};
-pub use rows::Rows;
+pub use row_map::Rows;
 pub use store::RowStore;
 pub use why::{CommitWhy, StoreWhy};

@@ -12,7 +12,7 @@ ghost use Rattle.row_store.specs.Opening.{WhyRefused, CountsFault, IsBadAmong, I
 ghost use Rattle.row_store.specs.Refused.{store_why_of};
 
 use crate::reading::{Found, ReadWhy, read_records};
-use crate::rows::Rows;
+use row_map::Rows;
 use crate::store::RowStore;
 use crate::why::StoreWhy;
 use apex_base::{Bytes, Scale};

@@ -5,7 +5,7 @@ ghost use Rattle.apex_journal.specs.Records.{blocks};
 ghost use Rattle.row_store.specs.Rows.{IsTaken, may_follow, so_far_of};
 ghost use Rattle.row_store.specs.Opening.{AreRead};
 
-use crate::rows::Rows;
+use row_map::Rows;
 use apex_base::Bytes;
 use row_codec::decode_batch;
 use std::alloc::{AllocError, Global};

@@ -9,7 +9,7 @@ ghost use Rattle.row_store.specs.Rows.{Held, next};
 ghost use Rattle.row_store.specs.Store.{Holds, Keeps, IsStore};
 ghost use Rattle.row_store.specs.Commits.{Commits, CommitCounts, IsFullWhere, MayStore};
 
-use crate::rows::Rows;
+use row_map::Rows;
 use crate::why::CommitWhy;
 use apex_disk::{Device, Disk};
 use apex_journal::{AppendWhy, Journal};

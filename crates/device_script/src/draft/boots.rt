@@ -4,7 +4,7 @@ use crate::fault::{LineError, LineFault};
 use crate::image::{image_with, with_manifest};
 use crate::words::PartWord;
 use apex_base::{Listed, Millis, Print, Scale, SessionId, Shared};
-use apex_world::{BootOrder, Image, ScriptBoot, SegmentList, SharedModule, SingleSubmit, Step};
+use apex_world::{BootOrder, Image, ScriptBoot, SegmentForm, SegmentList, SharedModule, SingleSubmit};
 use std::alloc::{AllocError, Global};
 
 impl Draft {
@@ -106,12 +106,12 @@ impl Draft {
     }
 
     /// A segment after the last boot.
-    pub(super) fn take_step(&mut self, step: Step) -> Result<(), LineError>
-        ensures { Becomes result self.new (segment_taken self.old (segment_of step) self.old.current) }
+    pub(super) fn take_step(&mut self, form: SegmentForm) -> Result<(), LineError>
+        ensures { Becomes result self.new (segment_taken self.old (segment_of form) self.old.current) }
     {
         match &mut self.current {
             None => Err(LineError::Fault(LineFault::BadPlace)),
-            Some(boot) => Ok(boot.segments.push(step)?),
+            Some(boot) => Ok(boot.segments.push(form)?),
         }
     }
 
@@ -128,6 +128,6 @@ impl Draft {
         let part = self.module_named(alloc, 4, part)?;
         let rollback = false;
         let submit = Box::new(alloc, SingleSubmit { id, rollback, part })?;
-        self.take_step(Step::Submit(submit))
+        self.take_step(SegmentForm::Submit(submit))
     }
 }

@@ -8,10 +8,10 @@ use Rattle.apex_journal.specs.Appends.{IsUntouched, IsUnwritten, MayHold}
 use Rattle.row_codec.specs.declared.batch.Row.{Row}
 use Rattle.row_codec.specs.Batch.{batch_of}
 use Rattle.row_store.specs.Rows.{RowMap, Held, changed, next}
-use Rattle.row_store.specs.Room.{Back}
+use Rattle.row_map.specs.Room.{Back}
 use Rattle.row_store.specs.Store.{Keeps, SeenStore, StoresEither, Stores}
 use Rattle.row_store.proofs.Commits.{keeps_of, holds_by, none_of, still, kept, either, more, undecided}
-use Rattle.row_store.proofs.Rooms.{table_after, back_is}
+use Rattle.row_map.proofs.Rooms.{table_after, back_is}
 use Rattle.row_store.proofs.store.RowStore.commit.Goals as goal
 
 pub invariant_of-self-in-Ok-append_in_place : goal.invariant_of-self-in-Ok-append_in_place
