@@ -8,6 +8,11 @@ pub mod CallStays
 pub mod ChosenLemmas
 pub mod CommitStays
 pub mod DataWeightLemmas
+pub mod DecidedIds
+pub mod DecidedPeers
+pub mod DecidedRecords
+pub mod DecidedTables
+pub mod DecidedTests
 pub mod EmptyLemmas
 pub mod Found
 pub mod HeldLemmas
