@@ -11,8 +11,10 @@ pub mod DataWeightLemmas
 pub mod DecidedIds
 pub mod DecidedPeers
 pub mod DecidedRecords
+pub mod DecidedRollbacks
 pub mod DecidedTables
 pub mod DecidedTests
+pub mod DecidedWorlds
 pub mod EmptyLemmas
 pub mod Found
 pub mod HeldLemmas

@@ -1,11 +1,8 @@
-use Rattle.apex_world.proofs.DecidedRecords.{record_decides}
-use Rattle.apex_world.proofs.DecidedIds.{ids_decide}
-use Rattle.apex_world.proofs.DecidedPeers.{alone_decides}
-use Rattle.apex_world.proofs.DecidedTables.{image_decides}
+use Rattle.apex_world.proofs.DecidedWorlds.{lawful_decides}
 use Rattle.apex_world.proofs.laws.decided.lawful_worlds_are_decided.Goals as goal
 
 pub returns-clause-passes : goal.returns-clause-passes
-returns-clause-passes c = let d = image_decides in ?
+returns-clause-passes c w law = (lawful_decides w).1 law
 
 pub returns-clause-holds : goal.returns-clause-holds
-returns-clause-holds c = ?
+returns-clause-holds c w passes = (lawful_decides w).0 passes
