@@ -9,6 +9,7 @@ pub mod ChosenLemmas
 pub mod CommitStays
 pub mod DataWeightLemmas
 pub mod DecidedIds
+pub mod DecidedModules
 pub mod DecidedPeers
 pub mod DecidedRecords
 pub mod DecidedRollbacks
