@@ -91,8 +91,8 @@ own_ids_decide r = pairs_decide (λ a b. not (is_same_id a b)) (λ (a b : Sessio
     (λ a b. Decides-not _ (Decides-eqb a.0 b.0)) (ids_of r)
 
 -- the test of the ids that callers give
-caller_ids_decide : (r : Record) → Decides (has_caller_ids r) (undoes r.kind ≡ false → (id : SessionId) → In id (ids_of r)
-    → IsTrue (is_caller_id id))
+caller_ids_decide : (r : Record) → Decides (has_caller_ids r) (undoes r.kind ≡ false → (id : SessionId)
+    → In id (ids_of r) → IsTrue (is_caller_id id))
 caller_ids_decide r =
     let d = every is_caller_id (λ id. IsTrue (is_caller_id id)) (ids_of r) (λ id h. itself (is_caller_id id)) in
     else_decides (undoes r.kind) (list_all is_caller_id (ids_of r)) d
@@ -136,7 +136,8 @@ parts_decide r =
     let d = Decides-and _ _ (Decides-or _ _ (Decides-and _ _ (none_decides r.children) (Decides-eqb (length r.parts) 1))
     (Decides-eqb (length r.children) (length r.parts)))
     (Decides-and _ _ (at_most (length r.parts) 16)
-    (Decides-and _ _ (pairs_decide _ (λ (p q : Part). p.name ≢ q.name) (λ p q. other_name_decides p.name q.name) r.parts)
+    (Decides-and _ _ (pairs_decide _ (λ (p q : Part). p.name ≢ q.name) (λ p q. other_name_decides p.name q.name)
+    r.parts)
     (Decides-and _ _ (else_decides (undoes r.kind) _ (all_own_decide r.id 0 r.parts))
     (every _ _ r.parts (λ p h. version_decides p.version (target_version p.target)))))) in (
       λ e. let (count, (few, (names, (own, versions)))) = d.0 e in

@@ -23,7 +23,8 @@ use Rattle.apex_world.proofs.DecidedTables.{says_decides}
 -- a part and its module, where they are as they have to be
 abbrev AreSaid : Option Part → Option FileMap → SessionId → ℕ → ℕ → Type 0
 AreSaid o c session part version =
-    (content : FileMap) × (name : List ℕ) × (c ≡ Some content) × (checked content ≡ Ok (record { name = name; version = version }))
+    (content : FileMap) × (name : List ℕ) × (c ≡ Some content)
+    × (checked content ≡ Ok (record { name = name; version = version }))
     × (o ≡ Some (record { name = name; version = Some version; target = targets.Module session part version }))
 
 -- the test of a part and its module decides that they fit
@@ -33,7 +34,8 @@ said_decides None c session part version = (λ e. absurd (cc), λ h. let e = h.4
 said_decides (Some p) None session part version = (λ e. absurd (cc), λ h. let e = h.2 in absurd (cc))
 said_decides (Some p) (Some content) session part version =
     let d = Decides-and _ _ (says_decides (checked content) p.name version)
-    (Decides-and _ _ (version_decides p.version (Some version)) (target_decides p.target (targets.Module session part version))) in (
+    (Decides-and _ _ (version_decides p.version (Some version))
+    (target_decides p.target (targets.Module session part version))) in (
       λ e. let (checks, (says, target)) = d.0 e in (
         content,
         p.name,
@@ -44,10 +46,12 @@ said_decides (Some p) (Some content) session part version =
       ),
       λ h. let (given, name, there, checks, is) = h in
           let same : given ≡ content = cc there in
-          let one : p ≡ record { name = name; version = Some version; target = targets.Module session part version } = cc is in
+          let target : Target = targets.Module session part version in
+          let one : p ≡ record { name = name; version = Some version; target = target } = cc is in
           let named : p.name ≡ name = ap (λ (p : Part). p.name) one in
           d.1 (
-            ap checked (sym same) ∙ checks ∙ ap (λ (n : List ℕ). Ok (record { name = n; version = version })) (sym named),
+            ap checked (sym same) ∙ checks
+                ∙ ap (λ (n : List ℕ). Ok (record { name = n; version = version })) (sym named),
             (ap (λ (p : Part). p.version) one, ap (λ (p : Part). p.target) one),
           ),
     )
@@ -64,7 +68,8 @@ kept_decides w (targets.Module s p v) =
     let d = said_decides (part_at_place w.sessions s p) (submitted_by w.modules s p) s p v in (
       λ e session part version is.
           let (content, name, there, checks, says) = d.0 e in
-          let here : IsKept w s p v = record { content = content; name = name; there = there; checks = checks; says = says } in
+          let here : IsKept w s p v =
+          record { content = content; name = name; there = there; checks = checks; says = says } in
           let a : s ≡ session = cc in
           let b : p ≡ part = cc in
           let c : v ≡ version = cc in

@@ -1,7 +1,7 @@
--- The tests of sessions that share a name decide them. Callers want `peers_decide`, `both_decide`, `activations_decide`,
--- `cause_decides` and `rollbacks_decide`.
+-- The tests of sessions that share a name, and of their activation boots, causes and rollbacks, decide them. Callers
+-- want `activations_decide`, `cause_decides`, `rollbacks_decide` and `alone_decides`.
 use Rattle.std.proofs.Common.{◌≡◌, ◌≢◌, ℕ, ◌<◌, Bool, true, false, cond, not, ◌&&◌}
-use Rattle.std.proofs.Common.{List, Option, Some, None, is_some, is_none, sym, ap, ◌∙◌, refl, inl, inr}
+use Rattle.std.proofs.Common.{List, Option, Some, None, is_some, is_none, sym, ap, ◌∙◌, refl, inl, inr, ⊎_elim}
 use Rattle.std.proofs.Common.{Decides, arith}
 use Rattle.std.specs.Str.{bytes_eq}
 use Rattle.std.proofs.lemmas.Bool.Decides.{Decides-and, Decides-or, Decides-not, Decides-eqb, Decides-ltb}
@@ -21,9 +21,11 @@ use Rattle.apex_world.specs.Decided.{all_peers, not_both_unfinished, has_activat
 use Rattle.apex_world.specs.Decided.{is_before_boot, is_after_undone, have_activations, has_its_cause, has_rollback}
 use Rattle.apex_world.specs.Decided.{not_both_available, have_rollbacks}
 use Rattle.apex_world.specs.Lawful.{AllPeers, NotBothUnfinished, HasActivation, AreActivatedApart}
-use Rattle.apex_world.specs.Lawful.{HaveActivations, never_activated, has_cause, HasRollback, NotBothAvailable, HaveRollbacks}
+use Rattle.apex_world.specs.Lawful.{HaveActivations, never_activated, has_cause, HasRollback, NotBothAvailable}
+use Rattle.apex_world.specs.Lawful.{HaveRollbacks}
 use Rattle.apex_world.proofs.DecidedIds.{pair_among, pairs_by}
-use Rattle.apex_world.proofs.DecidedTests.{itself, at_most, every, pairs_decide, if_decides, unless_decides, implies_decides}
+use Rattle.apex_world.proofs.DecidedTests.{itself, at_most, every, pairs_decide, if_decides, unless_decides}
+use Rattle.apex_world.proofs.DecidedTests.{implies_decides}
 use Rattle.apex_world.proofs.KeptLemmas.{names_own}
 use Rattle.apex_world.proofs.WorldRows.{same_name}
 
@@ -57,7 +59,8 @@ peers_by_pair P ss h r s name i j d n m =
     ]
 
 -- and the other way round, in a list that ascends
-pairs_of_peers : (P : Record → Record → Type 0) (ss : List Record) → Ascend ss → AllPeers P ss → EachPair (ArePeers P) ss
+pairs_of_peers : (P : Record → Record → Type 0) (ss : List Record) → Ascend ss → AllPeers P ss
+    → EachPair (ArePeers P) ss
 pairs_of_peers P ss a h =
     pairs_by (λ (r s : Record). r.id.0 < s.id.0) (ArePeers P) ss a
     (λ r s i j below e.
@@ -96,8 +99,8 @@ activation_decides boots r =
 -- the test of two activation boots decides them
 activated_apart_decides : (r s : Record) → Decides (are_activated_apart r s) (AreActivatedApart r s)
 activated_apart_decides r s =
-    let d = Decides-and _ _ (unless_decides _ _ (Decides-eqb r.activation 0) (unless_decides _ _ (Decides-eqb s.activation 0)
-    (Decides-not _ (Decides-eqb r.activation s.activation))))
+    let d = Decides-and _ _ (unless_decides _ _ (Decides-eqb r.activation 0)
+    (unless_decides _ _ (Decides-eqb s.activation 0) (Decides-not _ (Decides-eqb r.activation s.activation))))
     (implies_decides _ _ (Decides-and _ _ (itself (is_undoable r.state)) (itself (is_standing s.state)))
     (Decides-ltb s.activation r.activation)) in (
       λ e. let (apart, above) = d.0 e in record { apart = apart; above = λ u f. above (u, f) },
@@ -110,16 +113,19 @@ IsAfter ss boot kind = (x : SessionId) (s : Record) → kind ≡ RollbackOf x �
     → s.activation < boot
 
 -- what is activated before a boot passes the test
-before_of : (boot : ℕ) (o : Option Record) → ((s : Record) → o ≡ Some s → s.activation < boot) → is_before_boot boot o ≡ true
+before_of : (boot : ℕ) (o : Option Record) → ((s : Record) → o ≡ Some s → s.activation < boot)
+    → is_before_boot boot o ≡ true
 before_of boot None h = refl
 before_of boot (Some s) h = lt-ltb s.activation boot (h s refl)
 
 -- and what passes was activated before it
-of_before : (boot : ℕ) (o : Option Record) (s : Record) → o ≡ Some s → is_before_boot boot o ≡ true → s.activation < boot
+of_before : (boot : ℕ) (o : Option Record) (s : Record) → o ≡ Some s → is_before_boot boot o ≡ true
+    → s.activation < boot
 of_before boot o s e b = ltb-true s.activation boot (ap (is_before_boot boot) (sym e) ∙ b)
 
 -- the test of a rollback session decides that it was activated after the other
-after_decides : (ss : List Record) (boot : ℕ) (kind : Kind) → Decides (is_after_undone ss boot kind) (IsAfter ss boot kind)
+after_decides : (ss : List Record) (boot : ℕ) (kind : Kind)
+    → Decides (is_after_undone ss boot kind) (IsAfter ss boot kind)
 after_decides ss boot Plain = (λ e x s k. absurd (cc), λ h. refl)
 after_decides ss boot WithRollback = (λ e x s k. absurd (cc), λ h. refl)
 after_decides ss boot (RollbackOf y) =
@@ -131,7 +137,8 @@ after_decides ss boot (RollbackOf y) =
     )
 
 -- the test of all activation boots decides them
-pub activations_decide : (boots : ℕ) (ss : List Record) → Ascend ss → Decides (have_activations boots ss) (HaveActivations boots ss)
+pub activations_decide : (boots : ℕ) (ss : List Record) → Ascend ss
+    → Decides (have_activations boots ss) (HaveActivations boots ss)
 activations_decide boots ss a =
     let d = Decides-and _ _ (every _ (HasActivation boots) ss (λ r h. activation_decides boots r))
     (Decides-and _ _ (peers_decide are_activated_apart AreActivatedApart activated_apart_decides ss a)
@@ -166,7 +173,8 @@ rollback_decides r =
     let d = Decides-and _ _ (there_decides (rolls_back r.kind) r.rollback)
     (Decides-and _ _ (implies_decides _ _ (itself (is_enabling r.rollback))
     (Decides-and _ _ (itself (is_unfinished r.state)) (Decides-eqb r.moment 0)))
-    (Decides-and _ _ (implies_decides _ _ (Decides-or _ _ (itself (is_available r.rollback)) (itself (is_committed r.rollback)))
+    (Decides-and _ _ (implies_decides _ _
+    (Decides-or _ _ (itself (is_available r.rollback)) (itself (is_committed r.rollback)))
     (itself (is_success r.state)))
     (implies_decides _ _ (none_is r.rollback) (Decides-eqb r.moment 0)))) in (
       λ e. let (kind, (enabling, (ready, none))) = d.0 e in
@@ -178,19 +186,7 @@ rollback_decides r =
             none = none;
             not_yet = λ f. (enabling f).1;
           },
-      λ h. d.1 (
-        sym h.kind,
-        (
-          λ f. (h.enabling f, h.not_yet f),
-          (
-            λ o. elim o [
-              | inl f ↦ h.available f
-              | inr f ↦ h.committed f
-            ],
-            h.none,
-          ),
-        ),
-      ),
+      λ h. d.1 (sym h.kind, (λ f. (h.enabling f, h.not_yet f), (⊎_elim h.available h.committed, h.none))),
     )
 
 -- the test of all rollbacks decides them
@@ -202,6 +198,7 @@ rollbacks_decide ss a =
     (λ e. let (each, peers) = d.0 e in record { each = each; peers = peers }, λ h. d.1 (h.each, h.peers))
 
 -- the test of unfinished sessions decides that no two share a name
-pub alone_decides : (ss : List Record) → Ascend ss → Decides (all_peers not_both_unfinished ss) (AllPeers NotBothUnfinished ss)
+pub alone_decides : (ss : List Record) → Ascend ss
+    → Decides (all_peers not_both_unfinished ss) (AllPeers NotBothUnfinished ss)
 alone_decides ss a = peers_decide not_both_unfinished NotBothUnfinished
     (λ r s. both_decide (is_unfinished r.state) (is_unfinished s.state)) ss a

@@ -62,7 +62,8 @@ cause_decides (Some (causes.Part name case)) = itself (is_name name)
 target_range_decides : (target : Target) → Decides (is_good_target target) (IsTarget target)
 target_range_decides targets.Preinstalled = (λ e. tt, λ h. refl)
 target_range_decides (targets.Module session part version) =
-    let d = Decides-and _ _ (width_decides session) (Decides-and _ _ (Decides-ltb part 256) (version_range_decides version)) in
+    let d = Decides-and _ _ (width_decides session)
+    (Decides-and _ _ (Decides-ltb part 256) (version_range_decides version)) in
     (λ e. let h = d.0 e in (h.0, h.1.0, h.1.1), λ h. d.1 (h.0, (h.1, h.2)))
 
 -- the test of the name and numbers in a part

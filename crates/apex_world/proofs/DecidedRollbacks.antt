@@ -17,15 +17,14 @@ use Rattle.apex_world.specs.Lawful.{is_verified, IsRollbackSession, HaveRollback
 use Rattle.apex_world.proofs.DecidedTests.{itself, every, implies_decides}
 use Rattle.apex_world.proofs.DecidedTests.{id_decides, part_decides}
 
--- Rollback sessions
-
--- a test that fails
+-- the test that another fails
 not_verified : (b : Bool) → Decides (not b) (b ≡ false)
 not_verified true = (λ e. absurd (cc), λ e. absurd (cc))
 not_verified false = (λ e. refl, λ e. refl)
 
 -- the test of a rollback session decides that it is that of this one
-session_decides : (ss : List Record) (x r : Record) → Decides (is_rollback_session ss r (Some x)) (IsRollbackSession ss x r)
+session_decides : (ss : List Record) (x r : Record)
+    → Decides (is_rollback_session ss r (Some x)) (IsRollbackSession ss x r)
 session_decides ss x r =
     let d = Decides-and _ _ (itself (is_committed x.rollback))
     (Decides-and _ _ (not_verified (is_verified r.state))

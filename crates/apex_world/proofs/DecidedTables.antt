@@ -31,7 +31,8 @@ use Rattle.apex_world.proofs.WorldRows.{in_part}
 
 module _ {X : Type 0} where
   -- what holds of each value that may be there holds of an option
-  some_at : (P : List ℕ → X → Type 0) (k : List ℕ) (o f : Option X) → o ≡ f → ((x : X) → o ≡ Some x → P k x) → IfSome f (P k)
+  some_at : (P : List ℕ → X → Type 0) (k : List ℕ) (o f : Option X) → o ≡ f → ((x : X) → o ≡ Some x → P k x)
+      → IfSome f (P k)
   some_at P k o None e h = tt
   some_at P k o (Some x) e h = h x e
 
@@ -61,15 +62,17 @@ module _ {X : Type 0} where
 -- the test of a module decides that it is one
 pub module_decides : (m : FileMap) → Decides (is_module m) (IsModule m)
 module_decides m =
+    let short = λ (k c : List ℕ). length c ≤ 1048576 in
+    let path = λ (k c : List ℕ). is_path k ≡ true in
     let d = Decides-and _ _ (at_most (fin.len m) 64) (every is_file _ (fin.entries m)
     (λ f h. Decides-and _ _ (itself (is_path f.0)) (at_most (length f.1) 1048576))) in (
       λ e. let (few, all) = d.0 e in
           record {
             few = few;
-            short = looked (λ k c. length c ≤ 1048576) m (λ f h. (all f h).1);
-            paths = looked (λ k c. is_path k ≡ true) m (λ f h. (all f h).0);
+            short = looked short m (λ f h. (all f h).1);
+            paths = looked path m (λ f h. (all f h).0);
           },
-      λ h. d.1 (h.few, λ f i. (looks (λ k c. is_path k ≡ true) m h.paths f i, looks (λ k c. length c ≤ 1048576) m h.short f i)),
+      λ h. d.1 (h.few, λ f i. (looks path m h.paths f i, looks short m h.short f i)),
     )
 
 -- Tables
@@ -82,7 +85,8 @@ module _ {X : Type 0} where
 
   -- what a row has to have
   abbrev IsRow : List ℕ × NameMap X → Type 0
-  IsRow row = (is_name row.0 ≡ true) × (((fin.len row.1 ≡ 0) → ⊥) × ((k : List ℕ) → In k (fin.keys row.1) → is_name k ≡ true))
+  IsRow row = (is_name row.0 ≡ true) × ((fin.len row.1 ≢ 0) × ((k : List ℕ) → In k (fin.keys row.1)
+      → is_name k ≡ true))
 
   -- the test of a row decides what it has to have
   row_decides : (row : List ℕ × NameMap X) → Decides (is_row row) (IsRow row)
@@ -103,16 +107,12 @@ module _ {X : Type 0} where
   table_row t is row h =
       let some : fin.len row.1 ≢ 0 = looks (λ a m. fin.len m ≢ 0) t is.some row h in
       let (b, x, e) = some_value row.1 some in
-      let first = is.first row.0 b x (value_at t row.0 b row.1 x (entry_get t row h) e) in (
-        first,
-        (
-          some,
-          λ k i.
-              let (v, j, s) = in_map_back (λ (r : List ℕ × X). r.0) k (fin.entries row.1) i in
-              subst (λ (n : List ℕ). is_name n ≡ true) s
-              (is.second row.0 v.0 v.1 (value_at t row.0 v.0 row.1 v.1 (entry_get t row h) (entry_get row.1 v j))),
-        ),
-      )
+      let first = is.first row.0 b x (value_at t row.0 b row.1 x (entry_get t row h) e) in
+      let second = λ (k : List ℕ) (i : In k (fin.keys row.1)).
+      let (v, j, s) = in_map_back (λ (r : List ℕ × X). r.0) k (fin.entries row.1) i in
+      let found = value_at t row.0 v.0 row.1 v.1 (entry_get t row h) (entry_get row.1 v j) in
+      subst (λ (n : List ℕ). is_name n ≡ true) s (is.second row.0 v.0 v.1 found) in
+      (first, (some, second))
 
   -- the test of a table decides that it is one
   pub table_decides : (t : Table X) → Decides (is_table t) (IsTable t)
@@ -158,27 +158,22 @@ package_decides m = says_decides (manifest_in m.content) m.name m.version
 pub image_decides : (scale : Scale) (o : Option Image) → Decides (is_image scale o) (IfSome o (IsRunningImage scale))
 image_decides scale None = (λ e. tt, λ h. refl)
 image_decides scale (Some image) =
+    let differ = λ (m n : Package). m.name ≢ n.name in
     let d = Decides-and _ _ (itself (is_print image.print))
     (Decides-and _ _ (at_most (length image.modules) (scale_modules scale))
-    (Decides-and _ _ (pairs_decide _ (λ (m n : Package). m.name ≢ n.name) (λ m n. other_name_decides m.name n.name) image.modules)
+    (Decides-and _ _ (pairs_decide _ differ (λ m n. other_name_decides m.name n.name) image.modules)
     (all_decide is_package IsPackage package_decides image.modules))) in (
       λ e. let (print, (count, (names, manifests))) = d.0 e in
           record {
             print = print;
             modules = record {
-              names = pairs_at (λ (m n : Package). m.name ≢ n.name) image.modules names;
+              names = pairs_at differ image.modules names;
               count = count;
               manifests = All-from_recursion IsPackage image.modules manifests;
             };
           },
-      λ h. d.1 (
-        h.print,
-        (
-          h.modules.count,
-          (
-            at_pairs (λ (m n : Package). m.name ≢ n.name) image.modules h.modules.names,
-            recursion_from_All IsPackage image.modules h.modules.manifests,
-          ),
-        ),
-      ),
+      λ h.
+          let names = at_pairs differ image.modules h.modules.names in
+          let manifests = recursion_from_All IsPackage image.modules h.modules.manifests in
+          d.1 (h.print, (h.modules.count, (names, manifests))),
     )

@@ -18,7 +18,7 @@ use Rattle.apex_base.specs.Members.{In, EachPair, each_pair}
 use Rattle.apex_world.specs.Decided.{is_zero, is_same_id, is_same_version, is_same_target, is_same_part}
 use Rattle.apex_world.proofs.WorldRows.{same_id}
 
--- Propositions
+-- Tests that are put together
 
 -- a test decides that it passes
 pub itself : (b : Bool) → Decides b (b ≡ true)
@@ -28,22 +28,22 @@ itself b = (λ e. e, λ e. e)
 pub at_most : (a b : ℕ) → Decides (leb a b) (a ≤ b)
 at_most a b = (leb-true a b, le-leb a b)
 
--- where one test decides only what another has told
+-- two tests, the second of which counts on the first
 pub and_then : {P Q : Type 0} (x y : Bool) → Decides x P → (P → Decides y Q) → Decides (x && y) (P × Q)
 and_then true y d k = (λ e. let p = d.0 refl in (p, (k p).0 e), λ h. (k h.0).1 h.1)
 and_then false y d k = (λ e. absurd (true≢false (sym e)), λ h. d.1 h.0)
 
--- a test that counts where another fails
+-- a test that counts only where another fails
 pub unless_decides : {P Q : Type 0} (x y : Bool) → Decides x P → Decides y Q → Decides (x || y) ((P → ⊥) → Q)
 unless_decides true y d k = (λ e n. absurd (n (d.0 refl)), λ h. refl)
 unless_decides false y d k = (λ e n. k.0 e, λ h. k.1 (h (λ p. true≢false (sym (d.1 p)))))
 
--- a test that is needed only where another fails, as an equation
+-- the same, where the other says nothing else
 pub else_decides : {Q : Type 0} (x y : Bool) → Decides y Q → Decides (x || y) (x ≡ false → Q)
 else_decides true y k = (λ e f. absurd (true≢false f), λ h. refl)
 else_decides false y k = (λ e f. k.0 e, λ h. k.1 (h refl))
 
--- a test that counts where another passes
+-- a test that counts only where another passes
 pub implies_decides : {P Q : Type 0} (x y : Bool) → Decides x P → Decides y Q → Decides (not x || y) (P → Q)
 implies_decides true y d k = (λ e p. k.0 e, λ h. k.1 (h (d.0 refl)))
 implies_decides false y d k = (λ e p. absurd (true≢false (sym (d.1 p))), λ h. refl)
@@ -98,7 +98,10 @@ at_pairs P (x ∷ xs) h =
 -- a list is empty if its length is zero
 pub none_decides : {X : Type 0} (xs : List X) → Decides (is_zero (length xs)) (xs ≡ [])
 none_decides [] = (λ e. refl, λ e. refl)
-none_decides (x ∷ xs) = (λ e. absurd (omega (arith, eqb-true (length (x ∷ xs)) 0 e)), λ e. absurd (omega (arith, ap length e)))
+none_decides (x ∷ xs) = (
+  λ e. absurd (omega (arith, eqb-true (length (x ∷ xs)) 0 e)),
+  λ e. absurd (omega (arith, ap length e)),
+)
 
 -- Equality
 
@@ -119,7 +122,10 @@ pub version_decides : (a b : Option ℕ) → Decides (is_same_version a b) (a �
 version_decides None None = (λ e. refl, λ e. refl)
 version_decides None (Some b) = (λ e. absurd (cc), λ e. absurd (cc))
 version_decides (Some a) None = (λ e. absurd (cc), λ e. absurd (cc))
-version_decides (Some a) (Some b) = (λ e. ap (λ (n : ℕ). Some n) (eqb-true a b e), λ e. let s : a ≡ b = cc in eq-eqb a b s)
+version_decides (Some a) (Some b) = (
+  λ e. ap (λ (n : ℕ). Some n) (eqb-true a b e),
+  λ e. let same : a ≡ b = cc in eq-eqb a b same,
+)
 
 -- the test of equal targets
 pub target_decides : (t u : Target) → Decides (is_same_target t u) (t ≡ u)
@@ -135,7 +141,8 @@ target_decides (targets.Module session part version) (targets.Module s p v) =
 -- the test of equal parts
 pub part_decides : (p q : Part) → Decides (is_same_part p q) (p ≡ q)
 part_decides p q =
-    let d = Decides-and _ _ (name_decides p.name q.name) (Decides-and _ _ (version_decides p.version q.version) (target_decides p.target q.target)) in (
+    let d = Decides-and _ _ (name_decides p.name q.name)
+    (Decides-and _ _ (version_decides p.version q.version) (target_decides p.target q.target)) in (
       λ e. let h = d.0 e in λ i. record { name = h.0 i; version = h.1.0 i; target = h.1.1 i },
       λ e. d.1 (ap (λ (p : Part). p.name) e, (ap (λ (p : Part). p.version) e, ap (λ (p : Part). p.target) e)),
     )

@@ -1,6 +1,6 @@
 -- The test of lawful worlds decides them: `lawful_decides`.
 use Rattle.std.proofs.Common.{◌≡◌, ℕ, ◌*◌, ◌≤◌}
-use Rattle.std.proofs.Common.{List, length, map, sum, Option, Some, None, IfSome, is_some, ap, Decides, arith}
+use Rattle.std.proofs.Common.{List, length, map, sum, Option, Some, None, IfSome, ap, Decides, arith}
 use Rattle.std.specs.FinMap as fin
 use Rattle.std.proofs.lemmas.Bool.Decides.{Decides-and, Decides-eqb, Decides-ltb}
 use Rattle.apex_base.specs.declared.numbers.Scale.{Scale}
@@ -16,7 +16,7 @@ use Rattle.apex_world.specs.Bounds.{HasLittleData, IsWithinScale}
 use Rattle.apex_world.specs.Data.{part_weight}
 use Rattle.apex_world.specs.Decided.{is_record, is_table, is_millis, are_in_range, has_parts, has_its_cause}
 use Rattle.apex_world.specs.Decided.{has_little_data, is_within_scale, is_lawful}
-use Rattle.apex_world.specs.Lawful.{IsTable, AreInRange, HasParts, has_cause, Lawful}
+use Rattle.apex_world.specs.Lawful.{IsTable, AreInRange, HasParts, Lawful}
 use Rattle.apex_world.specs.Limits.{units, weight}
 use Rattle.apex_world.specs.World.{World, Contents, boots}
 use Rattle.apex_world.proofs.DecidedIds.{ids_decide, parts_decide}
@@ -26,6 +26,10 @@ use Rattle.apex_world.proofs.DecidedRecords.{record_decides, millis_decides}
 use Rattle.apex_world.proofs.DecidedRollbacks.{undone_decide}
 use Rattle.apex_world.proofs.DecidedTables.{module_decides, table_decides, ends_decide, image_decides, values_decide}
 use Rattle.apex_world.proofs.DecidedTests.{at_most, and_then, every, none_decides, implies_decides}
+
+-- two facts as a pair
+both : {P Q : Type 0} → P → Q → P × Q
+both p q = (p, q)
 
 -- Ranges
 
@@ -43,7 +47,8 @@ ranges_decide w =
     (Decides-and _ _ (millis_decides w.clock)
     (Decides-and _ _ (image_decides w.scale w.image)
     (at_most (length w.observers) 8)))))))))) in (
-      λ e. let (sessions, (modules, (contents, (eras, (moments, (watches, (ends, (boots, (clock, (image, observers)))))))))) = d.0 e in
+      λ e. let (sessions, (modules, (contents, (eras, (moments, (watches, last)))))) = d.0 e in
+          let (ends, (boots, (clock, (image, observers)))) = last in
           record {
             sessions = sessions;
             modules = modules;
@@ -57,34 +62,9 @@ ranges_decide w =
             image = image;
             observers = observers;
           },
-      λ h. d.1 (
-        h.sessions,
-        (
-          h.modules,
-          (
-            h.contents,
-            (
-              h.eras,
-              (
-                h.moments,
-                (
-                  h.watches,
-                  (
-                    h.ends,
-                    (
-                      h.boots,
-                      (
-                        h.clock,
-                        (h.image, h.observers),
-                      ),
-                    ),
-                  ),
-                ),
-              ),
-            ),
-          ),
-        ),
-      ),
+      λ h.
+          let last = both h.ends (both h.boots (both h.clock (both h.image h.observers))) in
+          d.1 (h.sessions, (h.modules, (h.contents, (h.eras, (h.moments, (h.watches, last)))))),
     )
 
 -- Bounds
@@ -106,7 +86,8 @@ at_most_weighs most None h = tt
 at_most_weighs most (Some m) h = h
 
 -- the test of data decides that it is little
-little_data_decides : (scale : Scale) (contents : Contents) → Decides (has_little_data scale contents) (HasLittleData scale contents)
+little_data_decides : (scale : Scale) (contents : Contents)
+    → Decides (has_little_data scale contents) (HasLittleData scale contents)
 little_data_decides scale contents =
     let most : ℕ = scale_data_weight scale in
     let d = Decides-and _ _ (at_most (fin.len contents) (scale_modules scale))
@@ -151,13 +132,14 @@ lawful_decides w =
     Decides-and _ _ (every has_parts HasParts w.sessions (λ r h. parts_decide r))
     (Decides-and _ _ (alone_decides w.sessions ids.ascend)
     (Decides-and _ _ (activations_decide (boots w) w.sessions ids.ascend)
-    (Decides-and _ _ (every has_its_cause (λ r. has_cause r.state ≡ is_some r.cause) w.sessions (λ r h. cause_decides r))
+    (Decides-and _ _ (every has_its_cause _ w.sessions (λ r h. cause_decides r))
     (Decides-and _ _ (rollbacks_decide w.sessions ids.ascend)
     (Decides-and _ _ (undone_decide w.sessions)
     (Decides-and _ _ (modules_decide w)
     (Decides-and _ _ (scale_decides w)
     (implies_decides _ _ (Decides-eqb (boots w) 0) (none_decides w.moments))))))))))) in (
-      λ e. let (ranges, (ids, (parts, (alone, (activations, (causes, (rollbacks, (undone, (modules, (bounds, begun)))))))))) = d.0 e in
+      λ e. let (ranges, (ids, (parts, (alone, (activations, (causes, last)))))) = d.0 e in
+          let (rollbacks, (undone, (modules, (bounds, begun)))) = last in
           record {
             ranges = ranges;
             ids = ids;
@@ -171,32 +153,7 @@ lawful_decides w =
             bounds = bounds;
             begun = begun;
           },
-      λ h. d.1 (
-        h.ranges,
-        (
-          h.ids,
-          (
-            h.parts,
-            (
-              h.alone,
-              (
-                h.activations,
-                (
-                  h.causes,
-                  (
-                    h.rollbacks,
-                    (
-                      h.undone,
-                      (
-                        h.modules,
-                        (h.bounds, h.begun),
-                      ),
-                    ),
-                  ),
-                ),
-              ),
-            ),
-          ),
-        ),
-      ),
+      λ h.
+          let last = both h.rollbacks (both h.undone (both h.modules (both h.bounds h.begun))) in
+          d.1 (h.ranges, (h.ids, (h.parts, (h.alone, (h.activations, (h.causes, last)))))),
     )
