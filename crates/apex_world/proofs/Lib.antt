@@ -8,6 +8,14 @@ pub mod CallStays
 pub mod ChosenLemmas
 pub mod CommitStays
 pub mod DataWeightLemmas
+pub mod DecidedIds
+pub mod DecidedModules
+pub mod DecidedPeers
+pub mod DecidedRecords
+pub mod DecidedRollbacks
+pub mod DecidedTables
+pub mod DecidedTests
+pub mod DecidedWorlds
 pub mod EmptyLemmas
 pub mod Found
 pub mod HeldLemmas
