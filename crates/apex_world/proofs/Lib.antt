@@ -18,6 +18,7 @@ pub mod Lasting
 pub mod LatestLemmas
 pub mod LeadsLemmas
 pub mod MovesAlike
+pub mod NameCounts
 pub mod NewIds
 pub mod OpenedBoots
 pub mod OpenedEras

@@ -1,0 +1,5 @@
+use Rattle.apex_world.proofs.NameCounts.{names_within}
+use Rattle.apex_world.proofs.laws.invariance_of_boots.boots_lead_to_running.Goals as goal
+
+pub returns : goal.returns
+returns c = let x = names_within in ?
