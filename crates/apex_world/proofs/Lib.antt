@@ -1,8 +1,11 @@
 pub mod AlikeAfter
 pub mod AlikeLemmas
 pub mod BootFollows
+pub mod BootLaws
+pub mod BootMakes
 pub mod BootSessions
 pub mod BootStays
+pub mod BootTurned
 pub mod BootTurns
 pub mod CallStays
 pub mod ChosenLemmas
