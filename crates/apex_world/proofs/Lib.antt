@@ -3,10 +3,12 @@ pub mod AlikeLemmas
 pub mod BootFollows
 pub mod BootLaws
 pub mod BootMakes
+pub mod BootModules
 pub mod BootSessions
 pub mod BootStays
 pub mod BootTurned
 pub mod BootTurns
+pub mod BootUndone
 pub mod CallStays
 pub mod ChosenLemmas
 pub mod CommitStays
