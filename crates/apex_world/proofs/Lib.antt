@@ -1,5 +1,6 @@
 pub mod AlikeAfter
 pub mod AlikeLemmas
+pub mod BootData
 pub mod BootFollows
 pub mod BootLaws
 pub mod BootMakes
@@ -24,6 +25,7 @@ pub mod LatestLemmas
 pub mod LeadsLemmas
 pub mod MovesAlike
 pub mod NameCounts
+pub mod NamedMaps
 pub mod NewIds
 pub mod OpenedBoots
 pub mod OpenedEras
