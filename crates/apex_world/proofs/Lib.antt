@@ -10,6 +10,7 @@ pub mod BootStays
 pub mod BootTurned
 pub mod BootTurns
 pub mod BootUndone
+pub mod BootWatches
 pub mod CallStays
 pub mod ChosenLemmas
 pub mod CommitStays
