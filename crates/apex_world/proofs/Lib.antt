@@ -1,10 +1,12 @@
 pub mod AlikeAfter
 pub mod AlikeLemmas
+pub mod BootCounts
 pub mod BootData
 pub mod BootFollows
 pub mod BootLaws
 pub mod BootMakes
 pub mod BootModules
+pub mod BootRuns
 pub mod BootSessions
 pub mod BootStays
 pub mod BootTurned
