@@ -138,4 +138,3 @@ module _ (w : World) (law : Lawful w) (order : BootOrder) (o : IsOrderOf w order
         peers = λ r s name h i d n m u v. not_ready r h u;
       })
       (λ s name h e n. absurd (not_ready s h e))
-

@@ -49,8 +49,13 @@ units_map f [] same = refl
 units_map f (r ∷ ss) same =
     let rest = units_map f ss same in
     let here : kind_units (f r).kind ≡ kind_units r.kind = ap kind_units (same r) in
-    omega (arith, rest, here, sum_by-cons (λ (r : Record). kind_units r.kind) (f r) (map f ss),
-    sum_by-cons (λ (r : Record). kind_units r.kind) r ss)
+    omega (
+      arith,
+      rest,
+      here,
+      sum_by-cons (λ (r : Record). kind_units r.kind) (f r) (map f ss),
+      sum_by-cons (λ (r : Record). kind_units r.kind) r ss,
+    )
 
 module _ (w : World) (law : Lawful w) (order : BootOrder) (o : IsOrderOf w order) (mounts : Mounts) where
   abbrev step : Record → Record

@@ -4,6 +4,7 @@ pub mod BootCounts
 pub mod BootData
 pub mod BootFollows
 pub mod BootLaws
+pub mod BootLoops
 pub mod BootMakes
 pub mod BootModules
 pub mod BootRuns
@@ -15,7 +16,13 @@ pub mod BootUndone
 pub mod BootWatches
 pub mod CallStays
 pub mod ChosenLemmas
+pub mod CommitKept
+pub mod CommitOne
+pub mod CommitParts
+pub mod CommitPeers
+pub mod CommitRuns
 pub mod CommitStays
+pub mod CommitUndone
 pub mod DataWeightLemmas
 pub mod EmptyLemmas
 pub mod Found
@@ -39,6 +46,7 @@ pub mod OpenedTables
 pub mod OwnTargets
 pub mod PlainLemmas
 pub mod RefusedLemmas
+pub mod ReportRuns
 pub mod Restored
 pub mod RevertAlike
 pub mod RollbackDataLemmas
@@ -47,6 +55,7 @@ pub mod RowWeightLemmas
 pub mod ShortForms
 pub mod StoredAlikeLemmas
 pub mod SuccessAlike
+pub mod TriggerRuns
 pub mod TurnLemmas
 pub mod WholeBoot
 pub mod WholeCalls
