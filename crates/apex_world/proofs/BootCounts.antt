@@ -1,10 +1,9 @@
 -- After a boot the image has each name of a session that is activated or can be rolled back, and so these names are
 -- few. Callers want `image_named`, `undoable_few`, `available_few` and `waiting_few`.
-use Rattle.std.proofs.Common.{◌≡◌, ◌≢◌, ◌⊎◌, ℕ, ◌+◌, ◌≤◌, ◌<◌, ◌^◌, ◌||◌, ◌&&◌, Bool, true, List, [], ◌∷◌, ◌++◌}
+use Rattle.std.proofs.Common.{◌≡◌, ℕ, ◌≤◌, ◌||◌, Bool, true, List, [], ◌∷◌}
 use Rattle.std.proofs.Common.{sym, ap, subst, ◌∙◌, inl, inr, is_some}
 use Rattle.std.specs.List.{list_all}
 use Rattle.std.specs.Str.{bytes_eq}
-use Rattle.std.specs.FinMap as fin
 use Rattle.std.proofs.lemmas.Bool.{and_parts, or_cases}
 use Rattle.std.proofs.lemmas.Slice.Eq.{bytes_eq-Decides}
 use Rattle.apex_base.specs.declared.numbers.Scale.{Scale}
@@ -27,7 +26,7 @@ use Rattle.apex_world.specs.Selection.{Mounts, preinstalled}
 use Rattle.apex_world.specs.World.{World}
 use Rattle.apex_world.proofs.BootLaws.{number, turn, after, cause_for, keeps, way, names_kept}
 use Rattle.apex_world.proofs.BootLaws.{ids_after, parts_after, alone_after, rollbacks_after}
-use Rattle.apex_world.proofs.BootMakes.{settled_available}
+use Rattle.apex_world.proofs.BootRollbacks.{settled_available}
 use Rattle.apex_world.proofs.BootSessions.{part_works}
 use Rattle.apex_world.proofs.BootTurned.{activated_is, turned_staged}
 use Rattle.apex_world.proofs.BootTurns.{undoable_unfinished, undoable_turned, activated_works}

@@ -1,19 +1,18 @@
--- The data that a boot leaves is within its bounds: what a name has is what it had, or had before some boot, or nothing.
--- Callers want `contents_table`, `contents_little`, `contents_in_image`.
-use Rattle.std.proofs.Common.{◌≡◌, ◌≢◌, ◌⊎◌, ℕ, ◌≤◌, Bool, true, false, cond, IsTrue, List, [], ◌∷◌, ◌++◌, length, fold, Option, Some, None}
+-- The data that a boot leaves is within its bounds: what a name has is what it had, or had before some boot, or
+-- nothing. Callers want `contents_table`, `contents_little`, `contents_in_image`, `eras_each`.
+use Rattle.std.proofs.Common.{◌≡◌, ◌≢◌, ℕ, ◌≤◌, Bool, true, false, cond, IsTrue, List, [], ◌∷◌, ◌++◌, fold, Option}
+use Rattle.std.proofs.Common.{Some, None}
 use Rattle.std.proofs.Common.{sym, ap, subst, ◌∙◌, refl, inl, inr, is_some, arith}
 use Rattle.std.specs.Prelude.{IfSome}
 use Rattle.std.specs.Ordering.{nat_cmp}
 use Rattle.std.specs.Cmp.Lexicographic.{slice_cmp}
 use Rattle.std.specs.FinMap as fin
 use Rattle.std.specs.FinMap.{slice_cmp-IsAntisymmetric, nat_cmp-IsAntisymmetric, get-retain_keys, get-empty}
-use Rattle.std.proofs.lemmas.Bool.{false≢true}
-use Rattle.apex_base.specs.declared.numbers.Scale.{Scale}
 use Rattle.apex_base.specs.declared.records.Part.{Part}
 use Rattle.apex_base.specs.declared.records.Record.{Record}
 use Rattle.apex_base.specs.Members.{In}
-use Rattle.apex_base.specs.Numbers.{scale_modules, scale_data_weight}
-use Rattle.apex_base.specs.Tables.{NameMap, or_empty, part_of, with_part, value_of}
+use Rattle.apex_base.specs.Numbers.{scale_data_weight}
+use Rattle.apex_base.specs.Tables.{NameMap, or_empty, part_of, with_part}
 use Rattle.apex_base.specs.Text.{is_name}
 use Rattle.apex_base.proofs.MemberLemmas.{in_append}
 use Rattle.apex_world.specs.declared.calls.Image.{Image}

@@ -1,7 +1,8 @@
 -- What a boot makes of the sessions of a lawful world has the laws of sessions by themselves, and of two that share a
 -- name: parts, unfinished sessions, activation boots, causes, rollbacks. Callers want what is `pub` in the last module.
-use Rattle.std.proofs.Common.{◌≡◌, ◌≢◌, ◌⊎◌, ℕ, ◌≤◌, ◌<◌, ◌+◌, Bool, true, false, List, [], ◌∷◌, ◌++◌, length, map, Option, Some}
-use Rattle.std.proofs.Common.{sym, ap, subst, ◌∙◌, refl, inl, inr, arith, is_some}
+use Rattle.std.proofs.Common.{◌≡◌, ◌≢◌, ◌⊎◌, ℕ, ◌≤◌, ◌<◌, ◌+◌, true, false, List, [], ◌∷◌, ◌++◌, length, map, Option}
+use Rattle.std.proofs.Common.{Some}
+use Rattle.std.proofs.Common.{sym, ap, subst, ◌∙◌, inl, inr, arith, is_some}
 use Rattle.std.specs.List.{list_any}
 use Rattle.std.specs.Option.{option_map}
 use Rattle.std.specs.Str.{bytes_eq}
@@ -9,15 +10,11 @@ use Rattle.std.proofs.lemmas.Bool.{false≢true}
 use Rattle.std.proofs.lemmas.List.{length-append}
 use Rattle.apex_base.specs.declared.numbers.SessionId.{SessionId}
 use Rattle.apex_base.specs.declared.records.Cause.{Cause}
-use Rattle.apex_base.specs.declared.records.Kind.{Kind}
 use Rattle.apex_base.specs.declared.records.Kind.TheVariants.{RollbackOf}
 use Rattle.apex_base.specs.declared.records.Part.{Part}
 use Rattle.apex_base.specs.declared.records.Record.{Record}
-use Rattle.apex_base.specs.declared.records.State.{State}
-use Rattle.apex_base.specs.declared.records.State.TheVariants as state
-use Rattle.apex_base.specs.Held.{is_available, is_success, is_unfinished}
+use Rattle.apex_base.specs.Held.{is_success, is_unfinished}
 use Rattle.apex_base.specs.Members.{In, EachPair}
-use Rattle.apex_base.specs.Rollbacks.{is_committed, is_enabling}
 use Rattle.apex_base.specs.Sessions.{names, session_of}
 use Rattle.apex_base.proofs.Finding.{some_of}
 use Rattle.apex_base.proofs.MemberLemmas.{in_map_back}
@@ -25,15 +22,18 @@ use Rattle.apex_base.proofs.SessionLemmas.{of_found}
 use Rattle.apex_world.specs.declared.calls.BootOrder.{BootOrder}
 use Rattle.apex_world.specs.Boot.{become}
 use Rattle.apex_world.specs.Follows.{IsKeptAs}
-use Rattle.apex_world.specs.Lawful.{Lawful, AreOwn, HasParts, AllPeers, NotBothUnfinished, AreActivatedApart, HasActivation}
-use Rattle.apex_world.specs.Lawful.{IsActivatedAfter, HaveActivations, has_cause, HasRollback, NotBothAvailable, HaveRollbacks}
+use Rattle.apex_world.specs.Lawful.{Lawful, AreOwn, HasParts, AllPeers, NotBothUnfinished, AreActivatedApart}
+use Rattle.apex_world.specs.Lawful.{HasActivation}
+use Rattle.apex_world.specs.Lawful.{IsActivatedAfter, HaveActivations, has_cause, HasRollback, NotBothAvailable}
+use Rattle.apex_world.specs.Lawful.{HaveRollbacks}
 use Rattle.apex_world.specs.Lawful.{HaveIds}
 use Rattle.apex_world.specs.Rows.{undoes}
 use Rattle.apex_world.specs.Selection.{Mounts, cause_of}
 use Rattle.apex_world.specs.World.{World, boots}
-use Rattle.apex_base.specs.Commit.{target_version, rolls_back}
+use Rattle.apex_base.specs.Commit.{rolls_back}
 use Rattle.apex_world.proofs.BootFollows.{ids_map}
-use Rattle.apex_world.proofs.BootMakes.{settles, settled_enabling, gives_up, causes_made}
+use Rattle.apex_world.proofs.BootCauses.{causes_made}
+use Rattle.apex_world.proofs.BootRollbacks.{settles, settled_enabling, gives_up}
 use Rattle.apex_world.proofs.BootSessions.{become_keeps}
 use Rattle.apex_world.proofs.BootTurned.{turned_unfinished, turned_success, turned_activation, turned_has, turned_apart}
 use Rattle.apex_world.proofs.BootTurns.{Turns, Rests, Activates, Remains, Fails, Reverts, turns}

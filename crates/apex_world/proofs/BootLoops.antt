@@ -1,7 +1,6 @@
 -- A boot leads from a lawful world to one that runs: `boots_running`.
 use Rattle.std.proofs.Common.{Bool, true, false, if◌then◌else◌}
-use Rattle.std.specs.Prelude.{Some, None, []}
-use Rattle.apex_base.specs.declared.records.Record.{Record}
+use Rattle.std.specs.Prelude.{Some, None}
 use Rattle.apex_base.specs.Rollbacks.{is_eligible}
 use Rattle.apex_base.specs.Windows.{is_looping}
 use Rattle.apex_world.specs.declared.calls.BootOrder.{BootOrder}

@@ -1,5 +1,6 @@
 -- A boot keeps no module that wasn't kept before. Callers want `modules_after` and `weight_after`.
-use Rattle.std.proofs.Common.{◌≡◌, ◌≢◌, ◌⊎◌, ℕ, ◌≤◌, ◌||◌, Bool, true, false, cond, List, map, Option, Some, None, sym, ap, subst, ◌∙◌, refl, inl, inr, arith, is_some}
+use Rattle.std.proofs.Common.{◌≡◌, ◌⊎◌, ℕ, ◌≤◌, Bool, true, false, cond, List, Option, Some, None, sym, ap, subst, ◌∙◌}
+use Rattle.std.proofs.Common.{refl, inl, inr, arith, is_some}
 use Rattle.std.specs.Prelude.{slice_get, option_and_then}
 use Rattle.std.specs.Option.{option_map}
 use Rattle.std.proofs.lemmas.Bool.{false≢true, or_right}
@@ -9,7 +10,7 @@ use Rattle.apex_base.specs.declared.records.Part.{Part}
 use Rattle.apex_base.specs.declared.records.Record.{Record}
 use Rattle.apex_base.specs.declared.records.Target.{Target}
 use Rattle.apex_base.specs.declared.records.Target.TheVariants as targets
-use Rattle.apex_base.specs.Held.{kept, is_available, is_module, is_success, is_target, is_undoable, is_unfinished}
+use Rattle.apex_base.specs.Held.{kept, is_available, is_module, is_success, is_target, is_undoable}
 use Rattle.apex_base.specs.Members.{In}
 use Rattle.apex_base.specs.Modules.{module_weight}
 use Rattle.apex_base.specs.Sessions.{session_of}
@@ -23,7 +24,7 @@ use Rattle.apex_world.specs.Limits.{target_weight, weight_of}
 use Rattle.apex_world.specs.Selection.{Mounts}
 use Rattle.apex_world.specs.World.{World}
 use Rattle.apex_world.proofs.BootLaws.{number, turn, after, cause_for, keeps, way, ids_after, activations_after}
-use Rattle.apex_world.proofs.BootMakes.{settles}
+use Rattle.apex_world.proofs.BootRollbacks.{settles}
 use Rattle.apex_world.proofs.BootTurned.{turned_unfinished, turned_success, turned_standing}
 use Rattle.apex_world.proofs.Found.{of_map}
 use Rattle.apex_world.proofs.KeptLemmas.{AreOrdered, ordered, stands_activated}
@@ -31,7 +32,8 @@ use Rattle.apex_world.proofs.KeptLess.{Goes, IsFresh, Carries, Comes, Nothing, B
 
 -- Sessions that come from others, none of which is new
 
-module _ (ss ss' : List Record) (comes : (t : Target) → In t (kept ss') → (t ≡ targets.Preinstalled) ⊎ In t (kept ss)) where
+module _ (ss ss' : List Record) (comes : (t : Target) → In t (kept ss')
+    → (t ≡ targets.Preinstalled) ⊎ In t (kept ss)) where
   module_comes : (session : SessionId) (part : ℕ) (t : Target) → is_module session part t ≡ true
       → (t ≡ targets.Preinstalled) ⊎ In t (kept ss) → is_target (kept ss) session part ≡ true
   module_comes session part t e (inl f) = absurd (false≢true (ap (is_module session part) (sym f) ∙ e))
@@ -129,7 +131,8 @@ module _ (w : World) (law : Lawful w) (order : BootOrder) (mounts : Mounts) wher
       ∙ part_of_map (session_of w.sessions session) part
 
   module_in : (session : SessionId) (part version : ℕ)
-      → (targets.Module session part version ≡ targets.Preinstalled) ⊎ In (targets.Module session part version) (kept w.sessions)
+      → (targets.Module session part version ≡ targets.Preinstalled)
+      ⊎ In (targets.Module session part version) (kept w.sessions)
       → In (targets.Module session part version) (kept w.sessions)
   module_in session part version (inl e) = absurd (cc)
   module_in session part version (inr h) = h

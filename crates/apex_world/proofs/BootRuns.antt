@@ -1,18 +1,16 @@
 -- A boot leads from a lawful world to one that runs, before anybody looks for a boot loop: `started_running`.
-use Rattle.std.proofs.Common.{IsTrue, ◌*◌, ◌≡◌, ◌≢◌, ◌⊎◌, ℕ, ◌+◌, ◌≤◌, ◌<◌, ◌^◌, ◌||◌, ◌&&◌, true, List, [], ◌∷◌, ◌++◌, length, map, Some}
+use Rattle.std.proofs.Common.{IsTrue, ◌*◌, ◌≡◌, ◌⊎◌, ℕ, ◌≤◌, ◌<◌, ◌^◌, true, List, [], ◌∷◌, ◌++◌, length, map, Some}
 use Rattle.std.proofs.Common.{sym, ap, subst, ◌∙◌, refl, inl, inr, arith}
 use Rattle.std.specs.List.{AllByRecursion}
 use Rattle.std.specs.Str.{bytes_eq}
 use Rattle.std.specs.Ordering.{nat_cmp}
 use Rattle.std.specs.Cmp.Lexicographic.{slice_cmp}
-use Rattle.std.specs.FinMap as fin
 use Rattle.std.specs.FinMap.{get-empty}
 use Rattle.std.proofs.lemmas.List.Sums.{sum_by-cons}
 use Rattle.apex_base.specs.declared.numbers.Scale.{Scale}
 use Rattle.apex_base.specs.declared.numbers.SessionId.{SessionId}
 use Rattle.apex_base.specs.declared.records.Part.{Part}
 use Rattle.apex_base.specs.declared.records.Record.{Record}
-use Rattle.apex_base.specs.declared.records.State.TheVariants as state
 use Rattle.apex_base.specs.Members.{In, EachPair}
 use Rattle.apex_base.specs.Numbers.{scale_modules}
 use Rattle.apex_base.specs.Ranges.{IsMillis}
@@ -31,13 +29,14 @@ use Rattle.apex_world.specs.Limits.{kind_units, units_of}
 use Rattle.apex_world.specs.Report.{failures_or, failures_of}
 use Rattle.apex_world.specs.Running.{runs, is_registered, is_of_image, Running}
 use Rattle.apex_world.specs.Selection.{Mounts}
-use Rattle.apex_world.specs.World.{World, boots}
+use Rattle.apex_world.specs.World.{World}
 use Rattle.apex_world.proofs.BootCounts.{is_image, of_steps, image_named, undoable_few, available_few, waiting_few}
 use Rattle.apex_world.proofs.BootData.{contents_table, contents_little, contents_in_image, eras_each}
 use Rattle.apex_world.proofs.BootWatches.{watch_left, watches_table, watches_few}
 use Rattle.apex_world.proofs.BootLaws.{number, turn, after, keeps, number_is}
-use Rattle.apex_world.proofs.BootLaws.{ids_after, parts_after, alone_after, activations_after, causes_after, rollbacks_after}
-use Rattle.apex_world.proofs.BootMakes.{causes_made, cause_of_parts}
+use Rattle.apex_world.proofs.BootLaws.{ids_after, parts_after, alone_after, activations_after, causes_after}
+use Rattle.apex_world.proofs.BootLaws.{rollbacks_after}
+use Rattle.apex_world.proofs.BootCauses.{causes_made, cause_of_parts}
 use Rattle.apex_world.proofs.BootModules.{modules_after, weight_after}
 use Rattle.apex_world.proofs.BootUndone.{undone_after}
 use Rattle.apex_world.proofs.KeptLemmas.{eq_name}

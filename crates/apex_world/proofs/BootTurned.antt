@@ -1,5 +1,5 @@
 -- What follows from the way that a boot has with a session: what it was before, and when it was activated.
-use Rattle.std.proofs.Common.{◌≡◌, ◌⊎◌, ℕ, ◌≤◌, ◌<◌, Bool, true, false, Option, None, sym, ap, subst, ◌∙◌, refl, inl, inr, arith}
+use Rattle.std.proofs.Common.{◌≡◌, ◌⊎◌, ℕ, ◌≤◌, ◌<◌, Bool, true, false, Option, sym, ap, ◌∙◌, refl, inl, inr, arith}
 use Rattle.std.proofs.lemmas.Bool.{false≢true}
 use Rattle.apex_base.specs.declared.records.Cause.{Cause}
 use Rattle.apex_base.specs.declared.records.Record.{Record}
@@ -9,7 +9,8 @@ use Rattle.apex_base.specs.Held.{is_undoable, is_unfinished, is_standing, is_suc
 use Rattle.apex_world.specs.Lawful.{HasActivation, AreActivatedApart, NotBothUnfinished, never_activated, is_verified}
 use Rattle.apex_world.specs.Rows.{is_staged}
 use Rattle.apex_world.specs.Running.{is_activated}
-use Rattle.apex_world.proofs.BootTurns.{Turns, Rests, Activates, Remains, Fails, Reverts, rests, undoable_unfinished, undoable_activated}
+use Rattle.apex_world.proofs.BootTurns.{Turns, Rests, Activates, Remains, Fails, Reverts, rests, undoable_unfinished}
+use Rattle.apex_world.proofs.BootTurns.{undoable_activated}
 use Rattle.apex_world.proofs.KeptLemmas.{stands_as, success_stands, undoable_no_success}
 
 no_success : (s : State) → is_unfinished s ≡ true → is_success s ≡ true → ⊥

@@ -1,15 +1,14 @@
 -- What a boot makes of the sessions of a lawful world: rollback sessions go back to where they went, since no boot
 -- changes what a name held before a session that was a success. Callers want `undone_after`.
-use Rattle.std.proofs.Common.{◌≡◌, ℕ, Bool, true, false, ◌&&◌, List, [], ◌∷◌, map, fold, Option, Some, None, sym, ap, subst, ◌∙◌, refl, inl, inr}
+use Rattle.std.proofs.Common.{◌≡◌, ℕ, Bool, true, false, ◌&&◌, List, [], ◌∷◌, map, fold, Option, Some, None, sym, ap}
+use Rattle.std.proofs.Common.{subst, ◌∙◌, refl, inl, inr}
 use Rattle.std.specs.Prelude.{nat_lt}
 use Rattle.std.proofs.lemmas.Bool.{false≢true}
 use Rattle.apex_base.specs.declared.numbers.SessionId.{SessionId}
-use Rattle.apex_base.specs.declared.records.Cause.{Cause}
 use Rattle.apex_base.specs.declared.records.Kind.TheVariants.{RollbackOf}
 use Rattle.apex_base.specs.declared.records.Part.{Part}
 use Rattle.apex_base.specs.declared.records.Record.{Record}
 use Rattle.apex_base.specs.declared.records.State.{State}
-use Rattle.apex_base.specs.declared.records.State.TheVariants as state
 use Rattle.apex_base.specs.declared.records.Target.{Target}
 use Rattle.apex_base.specs.Commit.{rollback_id, target_version, part_before}
 use Rattle.apex_base.specs.Held.{candidate, later, target_of, latest, before, is_success}
@@ -17,14 +16,13 @@ use Rattle.apex_base.specs.Members.{In}
 use Rattle.apex_base.specs.Rollbacks.{is_committed}
 use Rattle.apex_base.specs.Sessions.{session_of}
 use Rattle.apex_base.proofs.MemberLemmas.{in_map_back}
-use Rattle.apex_base.proofs.SessionLemmas.{of_found}
 use Rattle.apex_world.specs.declared.calls.BootOrder.{BootOrder}
 use Rattle.apex_world.specs.Follows.{IsKeptAs}
 use Rattle.apex_world.specs.Lawful.{Lawful, IsRollbackSession, HaveRollbackSessions}
 use Rattle.apex_world.specs.Selection.{Mounts}
 use Rattle.apex_world.specs.World.{World}
-use Rattle.apex_world.proofs.BootLaws.{number, turn, after, cause_for, keeps, way, found_map, map_found, undone_success}
-use Rattle.apex_world.proofs.BootMakes.{settles}
+use Rattle.apex_world.proofs.BootLaws.{number, turn, after, cause_for, keeps, way, map_found, undone_success}
+use Rattle.apex_world.proofs.BootRollbacks.{settles}
 use Rattle.apex_world.proofs.BootTurned.{turned_success, turned_from_success, turned_begun}
 
 -- The latest after a step of each session by itself
@@ -79,7 +77,8 @@ module _ (w : World) (law : Lawful w) (order : BootOrder) (mounts : Mounts) wher
   kept : (r : Record) → IsKeptAs r (step r)
   kept r = keeps w law order mounts r
 
-  success_stays : (r : Record) → is_success r.state ≡ true → ((step r).state ≡ r.state) × ((step r).activation ≡ r.activation)
+  success_stays : (r : Record) → is_success r.state ≡ true
+      → ((step r).state ≡ r.state) × ((step r).activation ≡ r.activation)
   success_stays r e = turned_success (cause_for w law order mounts r) (number w law order mounts) r (step r) e
       (way w law order mounts r)
 

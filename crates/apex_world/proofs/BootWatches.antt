@@ -1,13 +1,15 @@
 -- The watches that a boot leaves are watches that there were, of its observers and of names of its image. Callers want
 -- `watch_left`, `watches_table` and `watches_few`.
-use Rattle.std.proofs.Common.{◌≡◌, ◌≢◌, ◌⊎◌, ℕ, ◌≤◌, ◌*◌, ◌&&◌, Bool, true, false, cond, List, [], ◌∷◌, length, map, fold, Option, Some, None}
+use Rattle.std.proofs.Common.{◌≡◌, ◌≢◌, ◌⊎◌, ℕ, ◌≤◌, ◌*◌, ◌&&◌, true, cond, List, [], ◌∷◌, length, map, fold, Option}
+use Rattle.std.proofs.Common.{Some, None}
 use Rattle.std.proofs.Common.{sym, ap, subst, ◌∙◌, refl, inl, inr, is_some, arith}
 use Rattle.std.specs.Prelude.{IfSome}
-use Rattle.std.specs.List.{list_any, sum_by, All}
+use Rattle.std.specs.List.{sum_by}
 use Rattle.std.specs.Ordering.{nat_cmp}
 use Rattle.std.specs.Cmp.Lexicographic.{slice_cmp}
 use Rattle.std.specs.FinMap as fin
-use Rattle.std.specs.FinMap.{slice_cmp-IsAntisymmetric, nat_cmp-IsAntisymmetric, get-retain_keys, get-empty, len-entries}
+use Rattle.std.specs.FinMap.{slice_cmp-IsAntisymmetric, nat_cmp-IsAntisymmetric, get-retain_keys, get-empty}
+use Rattle.std.specs.FinMap.{len-entries}
 use Rattle.std.proofs.Math.Nat.{mul-le-mul_right}
 use Rattle.std.proofs.lemmas.Bool.{and_parts}
 use Rattle.std.proofs.lemmas.List.{length-map}
@@ -16,7 +18,7 @@ use Rattle.apex_base.specs.Members.{In}
 use Rattle.apex_base.specs.Numbers.{scale_modules}
 use Rattle.apex_base.specs.Tables.{NameMap, Table, or_empty, part_of, with_part, value_of}
 use Rattle.apex_base.proofs.Finding.{some_if}
-use Rattle.apex_base.proofs.MemberLemmas.{in_map, in_any}
+use Rattle.apex_base.proofs.MemberLemmas.{in_map}
 use Rattle.apex_base.proofs.RowMaps.{entry_get}
 use Rattle.apex_base.proofs.TableLemmas.{some_value}
 use Rattle.apex_world.specs.declared.calls.BootOrder.{BootOrder}
@@ -151,7 +153,8 @@ module _ (order : BootOrder) (watches : Watches) where
   }
 
   -- an observer that watches something is one of the boot's
-  left_by : (a : List ℕ) (m : NameMap ℕ) → fin.get left a ≡ Some m → In a (map (λ (o : Observer). o.name) order.observers)
+  left_by : (a : List ℕ) (m : NameMap ℕ) → fin.get left a ≡ Some m
+      → In a (map (λ (o : Observer). o.name) order.observers)
   left_by a m e =
       let some : fin.len m ≢ 0 = subst (λ (o : Option (NameMap ℕ)). IfSome o (λ m. fin.len m ≢ 0)) e (left_some a) in
       let (b, x, f) = some_value m some in

@@ -1,12 +1,13 @@
 pub mod AlikeAfter
 pub mod AlikeLemmas
+pub mod BootCauses
 pub mod BootCounts
 pub mod BootData
 pub mod BootFollows
 pub mod BootLaws
 pub mod BootLoops
-pub mod BootMakes
 pub mod BootModules
+pub mod BootRollbacks
 pub mod BootRuns
 pub mod BootSessions
 pub mod BootStays

@@ -1,13 +1,8 @@
--- What a boot makes of the rollback and the cause of one session. Callers want `settles`, `settled_available`,
--- `settled_enabling`, `causes_made` and `keeps_moment`.
-use Rattle.std.proofs.Common.{◌≡◌, ℕ, Bool, true, false, cond, ◌&&◌, List, [], ◌∷◌, Option, Some, None, sym, ap, ◌∙◌, refl, is_some, IsTrue}
+-- What a boot makes of the rollback of one session: it stays what it is, or is deleted. Callers want `settles`,
+-- `settled_available` and `settled_enabling`.
+use Rattle.std.proofs.Common.{◌≡◌, ℕ, Bool, true, false, cond, List, Option, Some, None, sym, ap, ◌∙◌, refl, is_some}
 use Rattle.std.specs.Prelude.{nat_le, ◌+◌}
-use Rattle.std.specs.List.{AllByRecursion}
-use Rattle.std.proofs.lemmas.Bool.{and_parts, false≢true}
-use Rattle.apex_base.specs.declared.records.Case.{Case}
-use Rattle.apex_base.specs.declared.records.Cause.{Cause}
-use Rattle.apex_base.specs.declared.records.Cause.TheVariants as causes
-use Rattle.apex_base.specs.declared.records.Part.{Part}
+use Rattle.std.proofs.lemmas.Bool.{and_parts}
 use Rattle.apex_base.specs.declared.records.Record.{Record}
 use Rattle.apex_base.specs.declared.records.RollbackState.{RollbackState}
 use Rattle.apex_base.specs.declared.records.RollbackState.TheVariants as rollbacks
@@ -15,16 +10,11 @@ use Rattle.apex_base.specs.declared.records.State.{State}
 use Rattle.apex_base.specs.declared.records.State.TheVariants as state
 use Rattle.apex_base.specs.Held.{is_available}
 use Rattle.apex_base.specs.Rollbacks.{is_enabling, is_committed, not_enabled, no_longer, given_up, is_expired, lifetime}
-use Rattle.apex_base.specs.Spelling.{IsCause, IsPart}
-use Rattle.apex_base.specs.Text.{is_name}
 use Rattle.apex_world.specs.declared.calls.BootOrder.{BootOrder}
-use Rattle.apex_world.specs.declared.calls.Image.{Image}
-use Rattle.apex_world.specs.declared.modules.Package.{Package}
 use Rattle.apex_world.specs.declared.world.Submission.{Submission}
-use Rattle.apex_world.specs.Boot.{ended, reverted, reverted_in, rebuilt, rebuilt_in, with_rollback, activated_by}
-use Rattle.apex_world.specs.Boot.{activated_in, kept_by, activated, booted, kept_in, become, is_same_build, keeps_rollback}
-use Rattle.apex_world.specs.Lawful.{has_cause}
-use Rattle.apex_world.specs.Selection.{Mounts, case_of, cause_or, cause_of}
+use Rattle.apex_world.specs.Boot.{reverted, rebuilt}
+use Rattle.apex_world.specs.Boot.{booted, kept_in, become, is_same_build, keeps_rollback}
+use Rattle.apex_world.specs.Selection.{Mounts, cause_of}
 use Rattle.apex_world.proofs.PlainLemmas.{reverted_keeps, activated_keeps}
 
 -- Rollbacks
@@ -116,13 +106,6 @@ given_up_not (Some rollbacks.Available) e = absurd (cc)
 given_up_not (Some rollbacks.Committed) e = absurd (cc)
 given_up_not (Some rollbacks.Deleted) e = absurd (cc)
 
-no_longer_not : (o : Option RollbackState) → is_available (no_longer o) ≡ true → ⊥
-no_longer_not None e = absurd (cc)
-no_longer_not (Some rollbacks.Enabling) e = absurd (cc)
-no_longer_not (Some rollbacks.Available) e = absurd (cc)
-no_longer_not (Some rollbacks.Committed) e = absurd (cc)
-no_longer_not (Some rollbacks.Deleted) e = absurd (cc)
-
 available_longer : (o : Option RollbackState) → is_available o ≡ true → is_enabling (no_longer o) ≡ true → ⊥
 available_longer None e f = absurd (cc)
 available_longer (Some rollbacks.Enabling) e f = absurd (cc)
@@ -196,74 +179,3 @@ module _ (mounts : Mounts) (modules : List Submission) (order : BootOrder) (n : 
   pub settled_enabling : is_enabling after.rollback ≡ true → gives_up after.state ≡ false
   settled_enabling e = aged_enabling (is_expired order.time last) last.state last.rollback
       (λ f. (and_parts (is_available last.rollback) (nat_le (last.moment + lifetime) order.time) f).0) e
-
--- Causes
-
--- no cause is that of a session without one, and the name in a cause is a part's
-pub record CausesMade (cause : Option Cause) (r s : Record) : Type 0 where
-  pub has : has_cause r.state ≡ is_some r.cause → has_cause s.state ≡ is_some s.cause
-  pub is : IsCause r.cause → IsCause cause → IsCause s.cause
-  pub moment : s.moment ≡ r.moment
-
-abbrev in_state : Record → State → Record
-in_state r s = record r { state = s }
-
-staged : (same : Bool) (cause : Option Cause) (b : ℕ) (r : Record) (o : Option RollbackState)
-    → CausesMade cause (in_state r state.Staged) (cond same
-    (activated_by cause b (with_rollback o (in_state r state.Staged)))
-    (ended state.ActivationFailed causes.OtherBuild (with_rollback o (in_state r state.Staged))))
-staged true None b r o = record { has = λ e. e; is = λ i c. i; moment = refl }
-staged true (Some cause) b r o = record { has = λ e. refl; is = λ i c. c; moment = refl }
-staged false cause b r o = record { has = λ e. refl; is = λ i c. tt; moment = refl }
-
-remains : (cause : Option Cause) (b : ℕ) (r : Record) (o : Option RollbackState)
-    → CausesMade cause (in_state r state.Activated) (kept_by cause (with_rollback o (in_state r state.Activated)))
-remains None b r o = record { has = λ e. e; is = λ i c. i; moment = refl }
-remains (Some cause) b r o = record { has = λ e. refl; is = λ i c. c; moment = refl }
-
-module _ (mounts : Mounts) (modules : List Submission) (order : BootOrder) (b : ℕ) where
-  abbrev image : Image
-  image = order.image
-
-  abbrev cause_for : Record → Option Cause
-  cause_for r = cause_of mounts modules image.modules r.parts
-
-  active : (same : Bool) (r : Record) (o : Option RollbackState)
-      → CausesMade (cause_for r) (in_state r state.Activated)
-      (activated mounts modules image b (with_rollback o
-      (rebuilt_in state.Activated same (in_state r state.Activated))))
-  active true r o = remains (cause_for r) b r o
-  active false r o = record { has = λ e. refl; is = λ i c. tt; moment = refl }
-
-  made_in : (s : State) (r : Record) → CausesMade (cause_for r) (in_state r s)
-      (become mounts modules order b (in_state r s))
-  made_in state.Verified r = record { has = λ e. e; is = λ i c. i; moment = refl }
-  made_in state.Staged r =
-      let m = staged (is_same_build image r) (cause_for r) b r
-      (cond (keeps_rollback image r) r.rollback (given_up r.rollback)) in
-      record { has = m.has; is = m.is; moment = m.moment }
-  made_in state.Activated r =
-      let m = active (is_same_build image r) r (cond (keeps_rollback image
-      (rebuilt_in state.Activated true (in_state r state.Activated))) r.rollback (given_up r.rollback)) in
-      record { has = m.has; is = m.is; moment = m.moment }
-  made_in state.ActivationFailed r = record { has = λ e. e; is = λ i c. i; moment = refl }
-  made_in state.Success r = record { has = λ e. e; is = λ i c. i; moment = refl }
-  made_in state.RevertInProgress r = record { has = λ e. refl; is = λ i c. tt; moment = refl }
-  made_in state.Reverted r = record { has = λ e. e; is = λ i c. i; moment = refl }
-  made_in state.Aborted r = record { has = λ e. e; is = λ i c. i; moment = refl }
-
-  pub causes_made : (r : Record) → CausesMade (cause_for r) r (become mounts modules order b r)
-  causes_made r = made_in r.state r
-
-cause_if : (name : List ℕ) (case : Option Case) (rest : Option Cause) → IsTrue (is_name name) → IsCause rest
-    → IsCause (cause_or name case rest)
-cause_if name None rest named is = is
-cause_if name (Some case) rest named is = named
-
--- the name in the cause is that of a part
-pub cause_of_parts : (mounts : Mounts) (modules : List Submission) (packages : List Package) (ps : List Part)
-    → AllByRecursion IsPart ps → IsCause (cause_of mounts modules packages ps)
-cause_of_parts mounts modules packages [] a = tt
-cause_of_parts mounts modules packages (p ∷ ps) a =
-    cause_if p.name (case_of mounts modules packages p) (cause_of mounts modules packages ps) a.0.name
-    (cause_of_parts mounts modules packages ps a.1)
