@@ -18,10 +18,12 @@ ghost use Rattle.apex_world.specs.Step.{step, success, submit, move_session};
 ghost use Rattle.apex_world.specs.World.{World, empty_world};
 
 mod decided;
+mod invariance_of_boots;
 mod rollback_data;
 mod wholeness;
 
 pub use decided::lawful_worlds_are_decided;
+pub use invariance_of_boots::boots_lead_to_running;
 pub use rollback_data::rollbacks_bring_back_data;
 pub use wholeness::activated_sessions_are_whole;
 
