@@ -7,6 +7,7 @@ pub mod BootTurns
 pub mod CallStays
 pub mod ChosenLemmas
 pub mod CommitOne
+pub mod CommitParts
 pub mod CommitStays
 pub mod DataWeightLemmas
 pub mod EmptyLemmas
