@@ -8,6 +8,7 @@ pub mod CallStays
 pub mod ChosenLemmas
 pub mod CommitOne
 pub mod CommitParts
+pub mod CommitPeers
 pub mod CommitStays
 pub mod DataWeightLemmas
 pub mod EmptyLemmas

@@ -34,7 +34,7 @@ IsCall (calls.Report time name why) = IsMillis time × IsTrue (is_name name)
 -- an order that a world can be booted with
 pub record IsOrderOf (w : World) (order : BootOrder) : Type 0 where
   pub scale : order.scale ≡ w.scale
-  pub order : IsOrder order
+  pub is_order : IsOrder order
   pub print : IsTrue (is_print order.image.print)
   pub time : IsMillis order.time
   pub number : boots w + 1 < 2 ^ 32
