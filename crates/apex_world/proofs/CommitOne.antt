@@ -113,7 +113,7 @@ module _ (ss : List Record) (x : Record) (print : List ℕ) where
     pub made_apart : (r : Record) → In r ss → r.id.0 ≢ made.id.0
     made_apart r h = new_id ss made r fresh h
 
-    same_number : (r : Record) → (after_commit x r).id.0 ≡ r.id.0
+    pub same_number : (r : Record) → (after_commit x r).id.0 ≡ r.id.0
     same_number r = ap (λ (id : SessionId). id.0) (leaves x r (after_commit x r) (commits_to x r)).kept.id
 
     pub stays_there : (r : Record) → In r ss → In (after_commit x r) (committed ss x print)

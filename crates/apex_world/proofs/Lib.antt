@@ -10,6 +10,7 @@ pub mod CommitOne
 pub mod CommitParts
 pub mod CommitPeers
 pub mod CommitStays
+pub mod CommitUndone
 pub mod DataWeightLemmas
 pub mod EmptyLemmas
 pub mod Found
@@ -21,6 +22,7 @@ pub mod Lasting
 pub mod LatestLemmas
 pub mod LeadsLemmas
 pub mod MovesAlike
+pub mod NameCounts
 pub mod NewIds
 pub mod OpenedBoots
 pub mod OpenedEras
