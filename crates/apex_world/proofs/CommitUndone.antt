@@ -68,7 +68,7 @@ module _ (name : List ℕ) where
       → latest test' (map f ss) name ≡ latest test ss name
   latest_map test test' f ss same = ap target_of (best_map test test' f ss None same)
 
-success_same : (r s : Record) → Leaves r s → is_success s.state ≡ is_success r.state
+pub success_same : (r s : Record) → Leaves r s → is_success s.state ≡ is_success r.state
 success_same r s l =
     elim l.goes [
       | inl g ↦ ap is_success g

@@ -6,6 +6,7 @@ pub mod BootStays
 pub mod BootTurns
 pub mod CallStays
 pub mod ChosenLemmas
+pub mod CommitKept
 pub mod CommitOne
 pub mod CommitParts
 pub mod CommitPeers
