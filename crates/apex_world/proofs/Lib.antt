@@ -10,6 +10,7 @@ pub mod CommitKept
 pub mod CommitOne
 pub mod CommitParts
 pub mod CommitPeers
+pub mod CommitRuns
 pub mod CommitStays
 pub mod CommitUndone
 pub mod DataWeightLemmas
