@@ -35,6 +35,7 @@ pub mod OpenedTables
 pub mod OwnTargets
 pub mod PlainLemmas
 pub mod RefusedLemmas
+pub mod ReportRuns
 pub mod Restored
 pub mod RevertAlike
 pub mod RollbackDataLemmas
@@ -43,6 +44,7 @@ pub mod RowWeightLemmas
 pub mod ShortForms
 pub mod StoredAlikeLemmas
 pub mod SuccessAlike
+pub mod TriggerRuns
 pub mod TurnLemmas
 pub mod WholeBoot
 pub mod WholeCalls
