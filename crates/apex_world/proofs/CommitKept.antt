@@ -1,18 +1,17 @@
 -- What is kept after a commit, and how much that is. Callers want `commit_modules` and `commit_bounds`.
-use Rattle.std.proofs.Common.{◌≡◌, ◌≢◌, ℕ, ◌+◌, ◌≤◌, Bool, true, false, cond, ◌||◌, is_some, List, [], ◌∷◌, length, map}
-use Rattle.std.proofs.Common.{Option, Some, None, sym, ap, subst, ◌∙◌, refl, inl, inr, ◌⊎◌, arith}
+use Rattle.std.proofs.Common.{◌≡◌, ◌≢◌, ℕ, ◌+◌, ◌≤◌, Bool, true, false, cond, is_some, List, [], ◌∷◌, length, map}
+use Rattle.std.proofs.Common.{Option, Some, sym, ap, subst, ◌∙◌, refl, inl, inr, ◌⊎◌, arith}
 use Rattle.std.specs.Prelude.{option_and_then, slice_get}
 use Rattle.std.specs.List.{sum_by}
 use Rattle.std.proofs.lemmas.Bool.{cases_order, or_right, false≢true}
 use Rattle.std.proofs.lemmas.List.Sums.{sum_by-cons, sum_by-le-sum_by}
 use Rattle.apex_base.specs.declared.numbers.SessionId.{SessionId}
-use Rattle.apex_base.specs.declared.records.Kind.{Kind}
 use Rattle.apex_base.specs.declared.records.Part.{Part}
 use Rattle.apex_base.specs.declared.records.Record.{Record}
 use Rattle.apex_base.specs.declared.records.Target.{Target}
 use Rattle.apex_base.specs.declared.records.Target.TheVariants as targets
 use Rattle.apex_base.specs.Commit.{part_before, committed, after_commit}
-use Rattle.apex_base.specs.Held.{is_unfinished, is_undoable, is_standing, is_success, is_available, kept, is_module}
+use Rattle.apex_base.specs.Held.{is_unfinished, is_undoable, is_standing, is_available, kept, is_module}
 use Rattle.apex_base.specs.Held.{is_target}
 use Rattle.apex_base.specs.Members.{In}
 use Rattle.apex_base.specs.Modules.{module_weight}
@@ -20,19 +19,19 @@ use Rattle.apex_base.specs.Numbers.{scale_modules}
 use Rattle.apex_base.specs.Sessions.{session_of, with_session}
 use Rattle.apex_base.proofs.Finding.{some_then, is_there}
 use Rattle.apex_base.proofs.MemberLemmas.{in_map_back, any_in, in_any}
-use Rattle.apex_world.specs.declared.world.Submission.{Submission}
 use Rattle.apex_world.specs.Bounds.{name_count, can_be_undone, can_be_rolled_back, is_ready_rollback, IsWithinScale}
 use Rattle.apex_world.specs.Lawful.{Lawful, HaveModules, part_at_place}
 use Rattle.apex_world.specs.Limits.{kind_units, units_of, target_weight, weight_of}
 use Rattle.apex_world.specs.World.{World}
-use Rattle.apex_world.proofs.CommitOne.{CommitsTo, Leaves, leaves, made, others, members, was_so, commits_to, made_apart}
+use Rattle.apex_world.proofs.CommitOne.{CommitsTo, leaves, made, others, members, was_so, commits_to, made_apart}
 use Rattle.apex_world.proofs.CommitOne.{same_number, stays_there, found_after}
 use Rattle.apex_world.proofs.CommitParts.{new_ids, commit_ids}
-use Rattle.apex_world.proofs.CommitPeers.{was_available, commit_activations}
+use Rattle.apex_world.proofs.CommitPeers.{commit_activations}
+use Rattle.apex_world.proofs.CommitRollbacks.{was_available}
 use Rattle.apex_world.proofs.CommitUndone.{success_same}
 use Rattle.apex_world.proofs.Found.{with_lt, with_gt}
 use Rattle.apex_world.proofs.KeptLemmas.{AreOrdered, Backs, ordered, stands_as, stands_activated, keeps}
-use Rattle.apex_world.proofs.KeptLess.{Goes, IsFresh, Carries, Comes, Nothing, Before, New, kept_less}
+use Rattle.apex_world.proofs.KeptLess.{Goes, IsFresh, Carries, Nothing, Before, New, kept_less}
 
 -- Sums over sessions
 
@@ -51,8 +50,12 @@ module _ (g : Record → ℕ) where
         | inr o ↦ elim o [
           | inl l ↦
               let rest = sum_with s ss (λ r h. apart r (inr h)) in
-              ap (sum_by g) (with_lt s x ss l) ∙ omega (arith, rest, sum_by-cons g x (with_session s ss),
-              sum_by-cons g x ss)
+              ap (sum_by g) (with_lt s x ss l) ∙ omega (
+                arith,
+                rest,
+                sum_by-cons g x (with_session s ss),
+                sum_by-cons g x ss,
+              )
           | inr l ↦ ap (sum_by g) (with_gt s x ss l) ∙ sum_by-cons g s (x ∷ ss)
         ]
       ]
@@ -87,8 +90,10 @@ module _ (w : World) (law : Lawful w) (x : Record) (h : In x w.sessions) (e : is
           | inl (u, v) ↦ inl v
           | inr u ↦ inr u
         ];
-        available = λ f. (or_right (is_undoable r.state) (is_available r.rollback) (was_available x r s c f),
-            l.activation);
+        available = λ f. (
+          or_right (is_undoable r.state) (is_available r.rollback) (was_available x r s c f),
+          l.activation,
+        );
       }
 
   new_fresh : IsFresh w.sessions new

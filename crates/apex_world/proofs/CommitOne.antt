@@ -1,6 +1,6 @@
 -- What the commit of a rollback makes of one session, and who is there afterwards. Callers want `CommitsTo`, `Leaves`,
 -- `leaves`, `members`, `stays_there` and `found_after`.
-use Rattle.std.proofs.Common.{◌≡◌, ◌≢◌, ◌⊎◌, ℕ, Bool, true, false, cond, List, map, Option, Some, sym, ap, subst, ◌∙◌}
+use Rattle.std.proofs.Common.{◌≡◌, ◌≢◌, ◌⊎◌, ℕ, Bool, true, false, cond, List, map, Some, sym, ap, subst, ◌∙◌}
 use Rattle.std.proofs.Common.{refl, inl, inr, eqb}
 use Rattle.std.specs.Option.{option_map}
 use Rattle.std.proofs.lemmas.Bool.{and_parts, false≢true, eqb-true, eq-eqb}

@@ -1,6 +1,6 @@
 -- The ids, parts and ranges of sessions after a commit. Callers want `commit_ids`, `commit_parts`, `commit_ranges`.
-use Rattle.std.proofs.Common.{◌≡◌, ◌≢◌, ℕ, ◌+◌, ◌<◌, ◌≤◌, ◌^◌, Bool, true, false, leb, IsTrue, is_some, IfSome, List}
-use Rattle.std.proofs.Common.{[], ◌∷◌, length, map, Option, Some, None, sym, ap, subst, ◌∙◌, refl, inl, inr, arith}
+use Rattle.std.proofs.Common.{◌≡◌, ◌≢◌, ℕ, ◌≤◌, true, false, leb, IsTrue, is_some, IfSome, List}
+use Rattle.std.proofs.Common.{[], ◌∷◌, map, Option, Some, None, sym, ap, subst, ◌∙◌, refl, inl, inr, arith}
 use Rattle.std.specs.Prelude.{◌&&◌, nat_lt}
 use Rattle.std.specs.List.{AllByRecursion}
 use Rattle.std.proofs.lemmas.Bool.{and_parts, false≢true, leb-true}
@@ -21,7 +21,7 @@ use Rattle.apex_base.specs.Ranges.{IsVersion}
 use Rattle.apex_base.specs.Sessions.{has_id}
 use Rattle.apex_base.specs.Spelling.{IsId, IsCause, IsTarget, IsPart, IsRecord}
 use Rattle.apex_base.specs.Text.{is_print}
-use Rattle.apex_base.proofs.MemberLemmas.{each_in, in_each, in_map_back}
+use Rattle.apex_base.proofs.MemberLemmas.{each_in, in_map_back}
 use Rattle.apex_world.specs.Follows.{IsKeptAs}
 use Rattle.apex_world.specs.Lawful.{Lawful, HaveIds, HasParts, ids_of}
 use Rattle.apex_world.specs.Rows.{undoes}

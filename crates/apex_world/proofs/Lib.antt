@@ -6,10 +6,12 @@ pub mod BootStays
 pub mod BootTurns
 pub mod CallStays
 pub mod ChosenLemmas
+pub mod CommitCall
 pub mod CommitKept
 pub mod CommitOne
 pub mod CommitParts
 pub mod CommitPeers
+pub mod CommitRollbacks
 pub mod CommitRuns
 pub mod CommitStays
 pub mod CommitUndone
