@@ -35,6 +35,7 @@ use Rattle.apex_world.proofs.KeptLess.{Goes, IsFresh, Carries, Nothing, Before, 
 
 -- Sums over sessions
 
+-- what counts by the first test counts by the second
 pub if_at_most : (b c : Bool) (n : ℕ) → (b ≡ true → c ≡ true) → cond b n 0 ≤ cond c n 0
 if_at_most true c n more = rw (more refl) (omega arith)
 if_at_most false c n more = omega arith
@@ -116,6 +117,7 @@ module _ (w : World) (law : Lawful w) (x : Record) (h : In x w.sessions) (e : is
     );
   }
 
+  -- sessions are ordered as before
   pub commit_ordered : AreOrdered after
   commit_ordered =
       let a = commit_activations w law x h e print in
@@ -139,6 +141,7 @@ module _ (w : World) (law : Lawful w) (x : Record) (h : In x w.sessions) (e : is
             (f ∙ ap (λ (p : Part). p.target) (sym is)))
       ]
 
+  -- what is kept after a commit is no module, or was kept
   pub kept_before : (t : Target) → In t (kept after) → (t ≡ targets.Preinstalled) ⊎ In t (kept w.sessions)
   kept_before t i =
       elim (kept_less w.sessions after (ordered w law) commit_ordered carries t i) [
@@ -147,6 +150,7 @@ module _ (w : World) (law : Lawful w) (x : Record) (h : In x w.sessions) (e : is
         | New s p j fresh k f ↦ inr (new_kept s p t j fresh k f)
       ]
 
+  -- a part of a session stays in its place
   place_after : (session : SessionId) (part : ℕ) (p : Part) → part_at_place w.sessions session part ≡ Some p
       → part_at_place after session part ≡ Some p
   place_after session part p f =
@@ -155,6 +159,7 @@ module _ (w : World) (law : Lawful w) (x : Record) (h : In x w.sessions) (e : is
       (found_after w.sessions x print (new_ids w law x h e) session r there)
       ∙ ap (λ (ps : List Part). slice_get ps part) (leaves x r (after_commit x r) (commits_to x r)).kept.parts ∙ is
 
+  -- each module that is kept is there
   pub commit_modules : HaveModules (record w { sessions = after })
   commit_modules = record {
     kept = λ session part version i. elim (kept_before (targets.Module session part version) i) [
@@ -185,6 +190,7 @@ module _ (w : World) (law : Lawful w) (x : Record) (h : In x w.sessions) (e : is
         | inr j ↦ in_any (is_module session part) t (kept w.sessions) j is
       ]
 
+  -- what is kept weighs at most as much as before
   weight_less : weight_of after w.modules ≤ weight_of w.sessions w.modules
   weight_less = sum_by-le-sum_by (target_weight (kept after)) (target_weight (kept w.sessions)) w.modules (λ s.
       if_at_most (is_target (kept after) s.session s.part) (is_target (kept w.sessions) s.session s.part)
@@ -202,6 +208,7 @@ module _ (w : World) (law : Lawful w) (x : Record) (h : In x w.sessions) (e : is
       (sym (same_number w.sessions x print (new_ids w law x h e) r) ∙ ap (λ (r : Record). r.id.0) is ∙ f)) in
       omega (arith, none, all, more)
 
+  -- the session that is made counts no unit
   units_less : units_of after ≤ units_of w.sessions
   units_less = sum_less (λ r. kind_units r.kind) refl (λ r s c.
       let same : kind_units s.kind ≡ kind_units r.kind = ap kind_units (leaves x r s c).kept.kind in
@@ -216,6 +223,7 @@ module _ (w : World) (law : Lawful w) (x : Record) (h : In x w.sessions) (e : is
       let same = ap (λ (ps : List Part). cond (test r) (length ps) 0) (leaves x r s c).kept.parts in
       omega (arith, most, same))
 
+  -- all that is bounded is within the scale
   pub commit_bounds : name_count is_ready_rollback after ≤ scale_modules w.scale
       → IsWithinScale (record w { sessions = after })
   commit_bounds waiting =

@@ -36,6 +36,7 @@ waiting_or_undoable state.RevertInProgress e f = refl
 waiting_or_undoable state.Reverted e f = absurd (cc)
 waiting_or_undoable state.Aborted e f = absurd (cc)
 
+-- a success is finished
 pub success_finished : (s : State) → is_success s ≡ true → is_unfinished s ≡ false
 success_finished state.Verified e = absurd (cc)
 success_finished state.Staged e = absurd (cc)
@@ -96,6 +97,7 @@ module _ (w : World) (law : Lawful w) (x : Record) (h : In x w.sessions) (e : is
   abbrev after : List Record
   after = committed w.sessions x print
 
+  -- what can be committed is a success
   pub success : is_success x.state ≡ true
   success = (law.rollbacks.each x h).available e
 
@@ -124,6 +126,7 @@ module _ (w : World) (law : Lawful w) (x : Record) (h : In x w.sessions) (e : is
             (named_before v s name (leaves x v s c) m)) u
       ]
 
+  -- no two sessions that share a name are unfinished
   pub commit_alone : IsFree w.sessions x → AllPeers NotBothUnfinished after
   commit_alone free r s name i j d n m u v =
       elim (members w.sessions x print r i) [
@@ -196,6 +199,7 @@ module _ (w : World) (law : Lawful w) (x : Record) (h : In x w.sessions) (e : is
       let same' = l.activation in
       omega (arith, low, same, same')
 
+  -- activation boots are as they were, and the new session has none
   pub commit_activations : HaveActivations (boots w) after
   commit_activations = record {
     each = λ s i. elim (members w.sessions x print s i) [
@@ -217,6 +221,7 @@ module _ (w : World) (law : Lawful w) (x : Record) (h : In x w.sessions) (e : is
   cause_of r s (GivesWay d wait f) is = subst (λ (s : Record). has_cause s.state ≡ is_some s.cause) (sym f) refl
   cause_of r s (Stays d g f) is = subst (λ (s : Record). has_cause s.state ≡ is_some s.cause) (sym f) is
 
+  -- sessions that failed have a cause, and no others
   pub commit_causes : (s : Record) → In s after → has_cause s.state ≡ is_some s.cause
   commit_causes s i =
       elim (members w.sessions x print s i) [

@@ -48,13 +48,14 @@ not_enabled_committed (Some rollbacks.Available) = refl
 not_enabled_committed (Some rollbacks.Committed) = refl
 not_enabled_committed (Some rollbacks.Deleted) = refl
 
--- what is available after a commit was available, and what was committed stays so
+-- what is available after a commit was available
 pub was_available : (x r s : Record) → CommitsTo x r s → is_available s.rollback ≡ true → is_available r.rollback ≡ true
 was_available x r s (Taken d e) f = absurd (false≢true (sym (ap (λ (r : Record). is_available r.rollback) e) ∙ f))
 was_available x r s (GivesWay d w e) f = not_enabled_available r.rollback
     (ap (λ (r : Record). is_available r.rollback) (sym e) ∙ f)
 was_available x r s (Stays d w e) f = ap (λ (r : Record). is_available r.rollback) (sym e) ∙ f
 
+-- what was committed stays so
 pub still_committed : (x r s : Record) → CommitsTo x r s → is_committed r.rollback ≡ true
     → is_committed s.rollback ≡ true
 still_committed x r s (Taken d e) f = ap (λ (r : Record). is_committed r.rollback) e
@@ -126,6 +127,7 @@ module _ (w : World) (law : Lawful w) (x : Record) (h : In x w.sessions) (e : is
         ]
       ]
 
+  -- rollbacks fit the states of their sessions, and no two of a name are available
   pub commit_rollbacks : HaveRollbacks after
   commit_rollbacks = record {
     each = λ s i. elim (members w.sessions x print s i) [

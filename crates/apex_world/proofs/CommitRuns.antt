@@ -50,11 +50,11 @@ not_both : (b : Bool) → not b ≡ true → b ≡ true → ⊥
 not_both true e f = false≢true e
 not_both false e f = false≢true f
 
--- what can be committed is available, and no session that can be undone shares a name with it
-
+-- what can be committed is available
 pub eligible_available : (ss : List Record) (x : Record) → is_eligible ss x ≡ true → is_available x.rollback ≡ true
 eligible_available ss x e = (and_parts (is_available x.rollback) (not (is_in_use ss x)) e).0
 
+-- and no session that can be undone shares a name with it
 pub eligible_free : (ss : List Record) (x : Record) → is_eligible ss x ≡ true → IsFree ss x
 eligible_free ss x e r h u s =
     not_both (is_in_use ss x) (and_parts (is_available x.rollback) (not (is_in_use ss x)) e).1

@@ -67,6 +67,7 @@ module _ (name : List ℕ) where
       → latest test' (map f ss) name ≡ latest test ss name
   latest_map test test' f ss same = ap target_of (best_map test test' f ss None same)
 
+-- a commit makes no success, and undoes none
 pub success_same : (r s : Record) → Leaves r s → is_success s.state ≡ is_success r.state
 success_same r s l =
     elim l.goes [
@@ -184,6 +185,7 @@ module _ (w : World) (law : Lawful w) (x : Record) (h : In x w.sessions) (e : is
             )
       ]
 
+  -- each committed rollback has its session, and each such session goes back to before the one that it undoes
   pub commit_undone : HaveRollbackSessions after
   commit_undone = record {
     back = λ s id i k. elim (members w.sessions x print s i) [

@@ -32,6 +32,7 @@ use Rattle.apex_world.proofs.TriggerRuns.{triggered_running}
 
 -- Moments in their order
 
+-- none is before an earlier one
 abbrev pub AreSorted : List ℕ → Type 0
 AreSorted ms = EachPair (λ m n. m ≤ n) ms
 

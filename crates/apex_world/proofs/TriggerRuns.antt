@@ -1,7 +1,7 @@
 -- Commits one after another, and triggers, keep worlds running. Callers want `all_running`, `triggered_running`,
--- `forgetting_running` and `looping_running`.
-use Rattle.std.proofs.Common.{◌≡◌, ◌≢◌, ℕ, ◌<◌, Bool, true, ◌&&◌, List, [], ◌∷◌, filter, Option, Some, None}
-use Rattle.std.proofs.Common.{sym, ap, subst, ◌∙◌, refl, inl, inr, arith}
+-- `forgetting_running`, `looping_running` and `boot_running`.
+use Rattle.std.proofs.Common.{◌≡◌, ◌≢◌, ℕ, ◌<◌, Bool, true, false, cond, ◌&&◌, List, [], ◌∷◌, filter, Option, Some}
+use Rattle.std.proofs.Common.{None, sym, ap, subst, ◌∙◌, refl, inl, inr, arith}
 use Rattle.std.specs.Prelude.{not}
 use Rattle.std.specs.List.{list_any}
 use Rattle.std.specs.Str.{bytes_eq}
@@ -13,13 +13,17 @@ use Rattle.apex_base.specs.Held.{is_undoable, is_available}
 use Rattle.apex_base.specs.Members.{In, EachPair}
 use Rattle.apex_base.specs.Rollbacks.{is_eligible, is_in_use}
 use Rattle.apex_base.specs.Sessions.{shares}
+use Rattle.apex_base.specs.Windows.{is_looping}
 use Rattle.apex_base.proofs.MemberLemmas.{any_in, in_any, each_in, in_filter}
 use Rattle.apex_base.proofs.SumLemmas.{pairs_map}
+use Rattle.apex_world.specs.declared.calls.BootOrder.{BootOrder}
 use Rattle.apex_world.specs.declared.calls.Observer.{Observer}
 use Rattle.apex_world.specs.declared.calls.ObserverKind.{ObserverKind}
 use Rattle.apex_world.specs.declared.calls.ObserverKind.TheVariants.{Fixed, Rollback}
+use Rattle.apex_world.specs.Boot.{loop_trigger, after_loop, started, boot_world}
 use Rattle.apex_world.specs.Lawful.{Lawful}
 use Rattle.apex_world.specs.Running.{Running}
+use Rattle.apex_world.specs.Selection.{Mounts}
 use Rattle.apex_world.specs.Submit.{print_of}
 use Rattle.apex_world.specs.Trigger.{eligible, acted, acting_among, commits, commit_all, triggered}
 use Rattle.apex_world.specs.World.{World}
@@ -82,6 +86,7 @@ module _ (w : World) (run : Running w) (x : Record) (h : In x w.sessions) (e : i
         and_from (is_available y.rollback) (not (is_in_use after y)) both.0 (not_used_after y both.1),
       )
 
+  -- after one commit the others can still be committed
   pub rest_eligible : (xs : List Record) → AreEligible w.sessions (x ∷ xs) → AreEligible after xs
   rest_eligible xs all = record {
     different = all.different.1;
@@ -196,3 +201,13 @@ pub looping_running : (w : World) → Running w → (observers : List Observer)
 looping_running w run observers =
     let acting = triggered_running (is_eligible w.sessions) w run (λ x e. e) observers in
     forgetting_running _ acting
+
+module _ (w : World) (order : BootOrder) (mounts : Mounts) (run : Running (started w order mounts)) where
+  loop_if : (b : Bool) → Running (after_loop (started w order mounts)
+      (cond b (Some (loop_trigger order (started w order mounts).sessions)) None))
+  loop_if true = looping_running (started w order mounts) run order.observers
+  loop_if false = run
+
+  -- a boot leads to a world that runs, if what it started does
+  pub boot_running : Running (boot_world w order mounts)
+  boot_running = loop_if (is_looping order.time (started w order mounts).moments)
