@@ -1,18 +1,17 @@
 -- What is kept after a commit, and how much that is. Callers want `commit_modules` and `commit_bounds`.
-use Rattle.std.proofs.Common.{◌≡◌, ◌≢◌, ℕ, ◌+◌, ◌≤◌, Bool, true, false, cond, ◌||◌, is_some, List, [], ◌∷◌, length, map}
-use Rattle.std.proofs.Common.{Option, Some, None, sym, ap, subst, ◌∙◌, refl, inl, inr, ◌⊎◌, arith}
+use Rattle.std.proofs.Common.{◌≡◌, ◌≢◌, ℕ, ◌+◌, ◌≤◌, Bool, true, false, cond, is_some, List, [], ◌∷◌, length, map}
+use Rattle.std.proofs.Common.{Option, Some, sym, ap, subst, ◌∙◌, refl, inl, inr, ◌⊎◌, arith}
 use Rattle.std.specs.Prelude.{option_and_then, slice_get}
 use Rattle.std.specs.List.{sum_by}
 use Rattle.std.proofs.lemmas.Bool.{cases_order, or_right, false≢true}
 use Rattle.std.proofs.lemmas.List.Sums.{sum_by-cons, sum_by-le-sum_by}
 use Rattle.apex_base.specs.declared.numbers.SessionId.{SessionId}
-use Rattle.apex_base.specs.declared.records.Kind.{Kind}
 use Rattle.apex_base.specs.declared.records.Part.{Part}
 use Rattle.apex_base.specs.declared.records.Record.{Record}
 use Rattle.apex_base.specs.declared.records.Target.{Target}
 use Rattle.apex_base.specs.declared.records.Target.TheVariants as targets
 use Rattle.apex_base.specs.Commit.{part_before, committed, after_commit}
-use Rattle.apex_base.specs.Held.{is_unfinished, is_undoable, is_standing, is_success, is_available, kept, is_module}
+use Rattle.apex_base.specs.Held.{is_unfinished, is_undoable, is_standing, is_available, kept, is_module}
 use Rattle.apex_base.specs.Held.{is_target}
 use Rattle.apex_base.specs.Members.{In}
 use Rattle.apex_base.specs.Modules.{module_weight}
@@ -20,22 +19,23 @@ use Rattle.apex_base.specs.Numbers.{scale_modules}
 use Rattle.apex_base.specs.Sessions.{session_of, with_session}
 use Rattle.apex_base.proofs.Finding.{some_then, is_there}
 use Rattle.apex_base.proofs.MemberLemmas.{in_map_back, any_in, in_any}
-use Rattle.apex_world.specs.declared.world.Submission.{Submission}
 use Rattle.apex_world.specs.Bounds.{name_count, can_be_undone, can_be_rolled_back, is_ready_rollback, IsWithinScale}
 use Rattle.apex_world.specs.Lawful.{Lawful, HaveModules, part_at_place}
 use Rattle.apex_world.specs.Limits.{kind_units, units_of, target_weight, weight_of}
 use Rattle.apex_world.specs.World.{World}
-use Rattle.apex_world.proofs.CommitOne.{CommitsTo, Leaves, leaves, made, others, members, was_so, commits_to, made_apart}
+use Rattle.apex_world.proofs.CommitOne.{CommitsTo, leaves, made, others, members, was_so, commits_to, made_apart}
 use Rattle.apex_world.proofs.CommitOne.{same_number, stays_there, found_after}
 use Rattle.apex_world.proofs.CommitParts.{new_ids, commit_ids}
-use Rattle.apex_world.proofs.CommitPeers.{was_available, commit_activations}
+use Rattle.apex_world.proofs.CommitPeers.{commit_activations}
+use Rattle.apex_world.proofs.CommitRollbacks.{was_available}
 use Rattle.apex_world.proofs.CommitUndone.{success_same}
 use Rattle.apex_world.proofs.Found.{with_lt, with_gt}
 use Rattle.apex_world.proofs.KeptLemmas.{AreOrdered, Backs, ordered, stands_as, stands_activated, keeps}
-use Rattle.apex_world.proofs.KeptLess.{Goes, IsFresh, Carries, Comes, Nothing, Before, New, kept_less}
+use Rattle.apex_world.proofs.KeptLess.{Goes, IsFresh, Carries, Nothing, Before, New, kept_less}
 
 -- Sums over sessions
 
+-- what counts by the first test counts by the second
 pub if_at_most : (b c : Bool) (n : ℕ) → (b ≡ true → c ≡ true) → cond b n 0 ≤ cond c n 0
 if_at_most true c n more = rw (more refl) (omega arith)
 if_at_most false c n more = omega arith
@@ -51,8 +51,12 @@ module _ (g : Record → ℕ) where
         | inr o ↦ elim o [
           | inl l ↦
               let rest = sum_with s ss (λ r h. apart r (inr h)) in
-              ap (sum_by g) (with_lt s x ss l) ∙ omega (arith, rest, sum_by-cons g x (with_session s ss),
-              sum_by-cons g x ss)
+              ap (sum_by g) (with_lt s x ss l) ∙ omega (
+                arith,
+                rest,
+                sum_by-cons g x (with_session s ss),
+                sum_by-cons g x ss,
+              )
           | inr l ↦ ap (sum_by g) (with_gt s x ss l) ∙ sum_by-cons g s (x ∷ ss)
         ]
       ]
@@ -87,8 +91,10 @@ module _ (w : World) (law : Lawful w) (x : Record) (h : In x w.sessions) (e : is
           | inl (u, v) ↦ inl v
           | inr u ↦ inr u
         ];
-        available = λ f. (or_right (is_undoable r.state) (is_available r.rollback) (was_available x r s c f),
-            l.activation);
+        available = λ f. (
+          or_right (is_undoable r.state) (is_available r.rollback) (was_available x r s c f),
+          l.activation,
+        );
       }
 
   new_fresh : IsFresh w.sessions new
@@ -111,6 +117,7 @@ module _ (w : World) (law : Lawful w) (x : Record) (h : In x w.sessions) (e : is
     );
   }
 
+  -- sessions are ordered as before
   pub commit_ordered : AreOrdered after
   commit_ordered =
       let a = commit_activations w law x h e print in
@@ -134,6 +141,7 @@ module _ (w : World) (law : Lawful w) (x : Record) (h : In x w.sessions) (e : is
             (f ∙ ap (λ (p : Part). p.target) (sym is)))
       ]
 
+  -- what is kept after a commit is no module, or was kept
   pub kept_before : (t : Target) → In t (kept after) → (t ≡ targets.Preinstalled) ⊎ In t (kept w.sessions)
   kept_before t i =
       elim (kept_less w.sessions after (ordered w law) commit_ordered carries t i) [
@@ -142,6 +150,7 @@ module _ (w : World) (law : Lawful w) (x : Record) (h : In x w.sessions) (e : is
         | New s p j fresh k f ↦ inr (new_kept s p t j fresh k f)
       ]
 
+  -- a part of a session stays in its place
   place_after : (session : SessionId) (part : ℕ) (p : Part) → part_at_place w.sessions session part ≡ Some p
       → part_at_place after session part ≡ Some p
   place_after session part p f =
@@ -150,6 +159,7 @@ module _ (w : World) (law : Lawful w) (x : Record) (h : In x w.sessions) (e : is
       (found_after w.sessions x print (new_ids w law x h e) session r there)
       ∙ ap (λ (ps : List Part). slice_get ps part) (leaves x r (after_commit x r) (commits_to x r)).kept.parts ∙ is
 
+  -- each module that is kept is there
   pub commit_modules : HaveModules (record w { sessions = after })
   commit_modules = record {
     kept = λ session part version i. elim (kept_before (targets.Module session part version) i) [
@@ -180,6 +190,7 @@ module _ (w : World) (law : Lawful w) (x : Record) (h : In x w.sessions) (e : is
         | inr j ↦ in_any (is_module session part) t (kept w.sessions) j is
       ]
 
+  -- what is kept weighs at most as much as before
   weight_less : weight_of after w.modules ≤ weight_of w.sessions w.modules
   weight_less = sum_by-le-sum_by (target_weight (kept after)) (target_weight (kept w.sessions)) w.modules (λ s.
       if_at_most (is_target (kept after) s.session s.part) (is_target (kept w.sessions) s.session s.part)
@@ -197,6 +208,7 @@ module _ (w : World) (law : Lawful w) (x : Record) (h : In x w.sessions) (e : is
       (sym (same_number w.sessions x print (new_ids w law x h e) r) ∙ ap (λ (r : Record). r.id.0) is ∙ f)) in
       omega (arith, none, all, more)
 
+  -- the session that is made counts no unit
   units_less : units_of after ≤ units_of w.sessions
   units_less = sum_less (λ r. kind_units r.kind) refl (λ r s c.
       let same : kind_units s.kind ≡ kind_units r.kind = ap kind_units (leaves x r s c).kept.kind in
@@ -211,6 +223,7 @@ module _ (w : World) (law : Lawful w) (x : Record) (h : In x w.sessions) (e : is
       let same = ap (λ (ps : List Part). cond (test r) (length ps) 0) (leaves x r s c).kept.parts in
       omega (arith, most, same))
 
+  -- all that is bounded is within the scale
   pub commit_bounds : name_count is_ready_rollback after ≤ scale_modules w.scale
       → IsWithinScale (record w { sessions = after })
   commit_bounds waiting =

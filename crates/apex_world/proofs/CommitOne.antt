@@ -1,6 +1,6 @@
 -- What the commit of a rollback makes of one session, and who is there afterwards. Callers want `CommitsTo`, `Leaves`,
 -- `leaves`, `members`, `stays_there` and `found_after`.
-use Rattle.std.proofs.Common.{◌≡◌, ◌≢◌, ◌⊎◌, ℕ, Bool, true, false, cond, List, map, Option, Some, sym, ap, subst, ◌∙◌}
+use Rattle.std.proofs.Common.{◌≡◌, ◌≢◌, ◌⊎◌, ℕ, Bool, true, false, cond, List, map, Some, sym, ap, subst, ◌∙◌}
 use Rattle.std.proofs.Common.{refl, inl, inr, eqb}
 use Rattle.std.specs.Option.{option_map}
 use Rattle.std.proofs.lemmas.Bool.{and_parts, false≢true, eqb-true, eq-eqb}
@@ -67,6 +67,7 @@ leaves_failed new r e = record {
   goes = inr (e, refl);
 }
 
+-- this much each of them leaves
 pub leaves : (x r s : Record) → CommitsTo x r s → Leaves r s
 leaves x r s (Taken e f) = subst (Leaves r) (sym f) (leaves_taken r)
 leaves x r s (GivesWay d e f) = subst (Leaves r) (sym f) (leaves_failed (rollback_id x.id) r e)
@@ -100,6 +101,7 @@ module _ (ss : List Record) (x : Record) (print : List ℕ) where
   abbrev pub others : List Record
   others = map (after_commit x) ss
 
+  -- who is there was made, or comes from one who was
   pub members : (s : Record) → In s (committed ss x print)
       → (s ≡ made) ⊎ ((r : Record) × In r ss × CommitsTo x r s)
   members s h =
@@ -110,16 +112,20 @@ module _ (ss : List Record) (x : Record) (print : List ℕ) where
       ]
 
   module _ (fresh : AreNew ss x) where
+    -- nobody had the id of the session that is made
     pub made_apart : (r : Record) → In r ss → r.id.0 ≢ made.id.0
     made_apart r h = new_id ss made r fresh h
 
+    -- a commit changes no id
     pub same_number : (r : Record) → (after_commit x r).id.0 ≡ r.id.0
     same_number r = ap (λ (id : SessionId). id.0) (leaves x r (after_commit x r) (commits_to x r)).kept.id
 
+    -- each session is there in its new state
     pub stays_there : (r : Record) → In r ss → In (after_commit x r) (committed ss x print)
     stays_there r h = with_others made others (after_commit x r) (in_map (after_commit x) r ss h)
         (λ e. made_apart r h (sym (same_number r) ∙ e))
 
+    -- and it is found by its id
     pub found_after : (id : SessionId) (r : Record) → session_of ss id ≡ Some r
         → session_of (committed ss x print) id ≡ Some (after_commit x r)
     found_after id r e =

@@ -1,6 +1,6 @@
 -- The ids, parts and ranges of sessions after a commit. Callers want `commit_ids`, `commit_parts`, `commit_ranges`.
-use Rattle.std.proofs.Common.{◌≡◌, ◌≢◌, ℕ, ◌+◌, ◌<◌, ◌≤◌, ◌^◌, Bool, true, false, leb, IsTrue, is_some, IfSome, List}
-use Rattle.std.proofs.Common.{[], ◌∷◌, length, map, Option, Some, None, sym, ap, subst, ◌∙◌, refl, inl, inr, arith}
+use Rattle.std.proofs.Common.{◌≡◌, ◌≢◌, ℕ, ◌≤◌, true, false, leb, IsTrue, is_some, IfSome, List}
+use Rattle.std.proofs.Common.{[], ◌∷◌, map, Option, Some, None, sym, ap, subst, ◌∙◌, refl, inl, inr, arith}
 use Rattle.std.specs.Prelude.{◌&&◌, nat_lt}
 use Rattle.std.specs.List.{AllByRecursion}
 use Rattle.std.proofs.lemmas.Bool.{and_parts, false≢true, leb-true}
@@ -21,7 +21,7 @@ use Rattle.apex_base.specs.Ranges.{IsVersion}
 use Rattle.apex_base.specs.Sessions.{has_id}
 use Rattle.apex_base.specs.Spelling.{IsId, IsCause, IsTarget, IsPart, IsRecord}
 use Rattle.apex_base.specs.Text.{is_print}
-use Rattle.apex_base.proofs.MemberLemmas.{each_in, in_each, in_map_back}
+use Rattle.apex_base.proofs.MemberLemmas.{each_in, in_map_back}
 use Rattle.apex_world.specs.Follows.{IsKeptAs}
 use Rattle.apex_world.specs.Lawful.{Lawful, HaveIds, HasParts, ids_of}
 use Rattle.apex_world.specs.Rows.{undoes}
@@ -36,12 +36,14 @@ use Rattle.apex_world.proofs.WorldRows.{same_id}
 
 -- Lists that are mapped
 
+-- what each element has, its image has
 pub each_of_map : {X Y : Type 0} (f : X → Y) (P : X → Type 0) (Q : Y → Type 0) (xs : List X)
     → ((x : X) → In x xs → P x → Q (f x)) → AllByRecursion P xs → AllByRecursion Q (map f xs)
 each_of_map f P Q [] more a = tt
 each_of_map f P Q (x ∷ xs) more a =
     (more x (inl refl) a.0, each_of_map f P Q xs (λ y h. more y (inr h)) a.1)
 
+-- what each pair of elements has, their images have
 pub pairs_of_map : {X Y : Type 0} (f : X → Y) (P : X → X → Type 0) (Q : Y → Y → Type 0)
     → ((x y : X) → P x y → Q (f x) (f y)) → (xs : List X) → EachPair P xs → EachPair Q (map f xs)
 pairs_of_map f P Q more [] a = tt
@@ -50,6 +52,7 @@ pairs_of_map f P Q more (x ∷ xs) a =
 
 -- A session whose rollback is available
 
+-- an available rollback is one
 pub available_some : (o : Option RollbackState) → is_available o ≡ true → is_some o ≡ true
 available_some None e = absurd (cc)
 available_some (Some rollbacks.Enabling) e = refl
@@ -63,6 +66,7 @@ submitted_kind WithRollback e = refl
 submitted_kind (RollbackOf x) e = absurd (cc)
 
 module _ (w : World) (law : Lawful w) (x : Record) (h : In x w.sessions) (e : is_available x.rollback ≡ true) where
+  -- it was submitted with a rollback
   pub rolls : rolls_back x.kind ≡ true
   rolls = sym (law.rollbacks.each x h).kind ∙ available_some x.rollback e
 
@@ -72,6 +76,7 @@ module _ (w : World) (law : Lawful w) (x : Record) (h : In x w.sessions) (e : is
       let t : IsTrue (is_caller_id id) = law.ids.callers x id h (submitted_kind x.kind rolls) i in
       leb-true id.0 1073741823 (and_parts (leb 1 id.0) (leb id.0 1073741823) t).1
 
+  -- nobody has had the ids that its rollback gives
   pub new_ids : AreNew w.sessions x
   new_ids = rollback_new w.sessions law.ids law.undone x h e
 
@@ -185,6 +190,7 @@ module _ (w : World) (law : Lawful w) (x : Record) (h : In x w.sessions) (e : is
             subst (λ (p : Part). p.version ≡ target_version p.target) f refl;
       }
 
+  -- each session has its parts
   pub commit_parts : (s : Record) → In s after → HasParts s
   commit_parts s i =
       elim (members w.sessions x print s i) [
@@ -223,6 +229,7 @@ module _ (w : World) (law : Lawful w) (x : Record) (h : In x w.sessions) (e : is
             ]
       ]
 
+  -- ids are those of callers or of their rollbacks, and no two are the same
   pub commit_ids : HaveIds after
   commit_ids = record {
     ascend = (commit_follows w.sessions x print law.ids.ascend (new_ids w law x h e)).ascend;

@@ -1,30 +1,26 @@
--- Sessions that share a name after a commit, and their rollbacks. Callers want `commit_alone`, `commit_activations`,
--- `commit_causes`, `commit_rollbacks` and `same_names`.
-use Rattle.std.proofs.Common.{◌≡◌, ◌≢◌, ℕ, ◌<◌, ◌≤◌, Bool, true, false, ◌||◌, is_some, List, [], ◌∷◌, map, Option, Some}
-use Rattle.std.proofs.Common.{None, sym, ap, subst, ◌∙◌, refl, inl, inr, arith}
+-- Sessions that share a name after a commit. Callers want `commit_alone`, `commit_activations`, `commit_causes`,
+-- `same_names` and `IsFree`.
+use Rattle.std.proofs.Common.{◌≡◌, ◌≢◌, ℕ, Bool, true, false, ◌||◌, is_some, List, [], ◌∷◌, map}
+use Rattle.std.proofs.Common.{sym, ap, subst, ◌∙◌, refl, inl, inr, arith}
 use Rattle.std.specs.List.{list_any}
 use Rattle.std.specs.Str.{bytes_eq}
 use Rattle.std.proofs.lemmas.Bool.{and_from, false≢true}
 use Rattle.apex_base.specs.declared.numbers.SessionId.{SessionId}
-use Rattle.apex_base.specs.declared.records.Kind.TheVariants.{RollbackOf}
 use Rattle.apex_base.specs.declared.records.Part.{Part}
 use Rattle.apex_base.specs.declared.records.Record.{Record}
-use Rattle.apex_base.specs.declared.records.RollbackState.{RollbackState}
-use Rattle.apex_base.specs.declared.records.RollbackState.TheVariants as rollbacks
 use Rattle.apex_base.specs.declared.records.State.{State}
 use Rattle.apex_base.specs.declared.records.State.TheVariants as state
-use Rattle.apex_base.specs.Commit.{is_waiting, part_before, committed, after_commit, rolls_back}
+use Rattle.apex_base.specs.Commit.{is_waiting, part_before, committed, after_commit}
 use Rattle.apex_base.specs.Held.{is_unfinished, is_undoable, is_standing, is_success, is_available}
 use Rattle.apex_base.specs.Members.{In}
-use Rattle.apex_base.specs.Rollbacks.{is_enabling, is_committed, not_enabled}
-use Rattle.apex_base.specs.Sessions.{names, shares, session_of}
+use Rattle.apex_base.specs.Sessions.{names, shares}
 use Rattle.apex_base.proofs.MemberLemmas.{any_in, in_any}
-use Rattle.apex_world.specs.Lawful.{Lawful, AllPeers, NotBothUnfinished, AreActivatedApart, HasActivation, IsActivatedAfter}
-use Rattle.apex_world.specs.Lawful.{HaveActivations, HasRollback, HaveRollbacks, NotBothAvailable, never_activated, has_cause}
+use Rattle.apex_world.specs.Lawful.{Lawful, AllPeers, NotBothUnfinished, AreActivatedApart, HasActivation}
+use Rattle.apex_world.specs.Lawful.{IsActivatedAfter, HaveActivations, never_activated, has_cause}
 use Rattle.apex_world.specs.World.{World, boots}
-use Rattle.apex_world.proofs.CommitOne.{CommitsTo, Taken, GivesWay, Stays, Leaves, leaves, made, members, was_so, still_so}
+use Rattle.apex_world.proofs.CommitOne.{CommitsTo, Taken, GivesWay, Stays, Leaves, leaves, made, members, was_so}
 use Rattle.apex_world.proofs.CommitOne.{commits_to, found_after}
-use Rattle.apex_world.proofs.CommitParts.{available_some, rolls, new_ids}
+use Rattle.apex_world.proofs.CommitParts.{new_ids}
 use Rattle.apex_world.proofs.OpenedSessions.{one_session}
 use Rattle.apex_world.proofs.WorldRows.{same_name}
 
@@ -40,6 +36,7 @@ waiting_or_undoable state.RevertInProgress e f = refl
 waiting_or_undoable state.Reverted e f = absurd (cc)
 waiting_or_undoable state.Aborted e f = absurd (cc)
 
+-- a success is finished
 pub success_finished : (s : State) → is_success s ≡ true → is_unfinished s ≡ false
 success_finished state.Verified e = absurd (cc)
 success_finished state.Staged e = absurd (cc)
@@ -77,6 +74,12 @@ any_part ss x name (p ∷ ps) = ap (λ (b : Bool). bytes_eq p.name name || b) (a
 pub same_names : (ss : List Record) (x : Record) (print name : List ℕ) → names name (made ss x print) ≡ names name x
 same_names ss x print name = any_part ss x name x.parts
 
+-- a session keeps its names
+pub named_before : (r s : Record) (name : List ℕ) → Leaves r s → names name s ≡ true → names name r ≡ true
+named_before r s name l n = ap (λ (ps : List Part). list_any (λ (p : Part). bytes_eq p.name name) ps)
+    (sym l.kept.parts) ∙ n
+
+-- sessions that have a name in common share it
 pub both_name : (x r : Record) (name : List ℕ) → names name x ≡ true → names name r ≡ true → shares x r ≡ true
 both_name x r name n m =
     let (p, i, e) = any_in (λ (p : Part). bytes_eq p.name name) x.parts n in
@@ -86,58 +89,6 @@ both_name x r name n m =
 abbrev pub IsFree : List Record → Record → Type 0
 IsFree sessions x = (r : Record) → In r sessions → is_undoable r.state ≡ true → shares x r ≡ true → ⊥
 
--- Rollbacks of sessions
-
-not_enabled_some : (o : Option RollbackState) → is_some (not_enabled o) ≡ is_some o
-not_enabled_some None = refl
-not_enabled_some (Some rollbacks.Enabling) = refl
-not_enabled_some (Some rollbacks.Available) = refl
-not_enabled_some (Some rollbacks.Committed) = refl
-not_enabled_some (Some rollbacks.Deleted) = refl
-
-not_enabled_never : (o : Option RollbackState) → is_enabling (not_enabled o) ≡ true → ⊥
-not_enabled_never None e = absurd (cc)
-not_enabled_never (Some rollbacks.Enabling) e = absurd (cc)
-not_enabled_never (Some rollbacks.Available) e = absurd (cc)
-not_enabled_never (Some rollbacks.Committed) e = absurd (cc)
-not_enabled_never (Some rollbacks.Deleted) e = absurd (cc)
-
-not_enabled_available : (o : Option RollbackState) → is_available (not_enabled o) ≡ true → is_available o ≡ true
-not_enabled_available None e = e
-not_enabled_available (Some rollbacks.Enabling) e = absurd (cc)
-not_enabled_available (Some rollbacks.Available) e = e
-not_enabled_available (Some rollbacks.Committed) e = absurd (cc)
-not_enabled_available (Some rollbacks.Deleted) e = absurd (cc)
-
-not_enabled_committed : (o : Option RollbackState) → is_committed (not_enabled o) ≡ is_committed o
-not_enabled_committed None = refl
-not_enabled_committed (Some rollbacks.Enabling) = refl
-not_enabled_committed (Some rollbacks.Available) = refl
-not_enabled_committed (Some rollbacks.Committed) = refl
-not_enabled_committed (Some rollbacks.Deleted) = refl
-
--- what is available after a commit was available, and what was committed stays so
-pub was_available : (x r s : Record) → CommitsTo x r s → is_available s.rollback ≡ true → is_available r.rollback ≡ true
-was_available x r s (Taken d e) f = absurd (false≢true (sym (ap (λ (r : Record). is_available r.rollback) e) ∙ f))
-was_available x r s (GivesWay d w e) f = not_enabled_available r.rollback
-    (ap (λ (r : Record). is_available r.rollback) (sym e) ∙ f)
-was_available x r s (Stays d w e) f = ap (λ (r : Record). is_available r.rollback) (sym e) ∙ f
-
-pub still_committed : (x r s : Record) → CommitsTo x r s → is_committed r.rollback ≡ true
-    → is_committed s.rollback ≡ true
-still_committed x r s (Taken d e) f = ap (λ (r : Record). is_committed r.rollback) e
-still_committed x r s (GivesWay d w e) f = ap (λ (r : Record). is_committed r.rollback) e
-    ∙ not_enabled_committed r.rollback ∙ f
-still_committed x r s (Stays d w e) f = ap (λ (r : Record). is_committed r.rollback) e ∙ f
-
--- another one that is committed was committed
-pub was_committed : (x r s : Record) → CommitsTo x r s → r.id.0 ≢ x.id.0 → is_committed s.rollback ≡ true
-    → is_committed r.rollback ≡ true
-was_committed x r s (Taken d e) apart f = absurd (apart d)
-was_committed x r s (GivesWay d w e) apart f = sym (not_enabled_committed r.rollback)
-    ∙ ap (λ (r : Record). is_committed r.rollback) (sym e) ∙ f
-was_committed x r s (Stays d w e) apart f = ap (λ (r : Record). is_committed r.rollback) (sym e) ∙ f
-
 module _ (w : World) (law : Lawful w) (x : Record) (h : In x w.sessions) (e : is_available x.rollback ≡ true)
     (print : List ℕ) where
   abbrev new : Record
@@ -146,14 +97,11 @@ module _ (w : World) (law : Lawful w) (x : Record) (h : In x w.sessions) (e : is
   abbrev after : List Record
   after = committed w.sessions x print
 
+  -- what can be committed is a success
   pub success : is_success x.state ≡ true
   success = (law.rollbacks.each x h).available e
 
   -- Who is unfinished
-
-  named_before : (r s : Record) (name : List ℕ) → Leaves r s → names name s ≡ true → names name r ≡ true
-  named_before r s name l n = ap (λ (ps : List Part). list_any (λ (p : Part). bytes_eq p.name name) ps)
-      (sym l.kept.parts) ∙ n
 
   unfinished_shares : IsFree w.sessions x → (r s : Record) → In r w.sessions → CommitsTo x r s → shares x r ≡ true
       → is_unfinished s.state ≡ true → ⊥
@@ -178,6 +126,7 @@ module _ (w : World) (law : Lawful w) (x : Record) (h : In x w.sessions) (e : is
             (named_before v s name (leaves x v s c) m)) u
       ]
 
+  -- no two sessions that share a name are unfinished
   pub commit_alone : IsFree w.sessions x → AllPeers NotBothUnfinished after
   commit_alone free r s name i j d n m u v =
       elim (members w.sessions x print r i) [
@@ -250,6 +199,7 @@ module _ (w : World) (law : Lawful w) (x : Record) (h : In x w.sessions) (e : is
       let same' = l.activation in
       omega (arith, low, same, same')
 
+  -- activation boots are as they were, and the new session has none
   pub commit_activations : HaveActivations (boots w) after
   commit_activations = record {
     each = λ s i. elim (members w.sessions x print s i) [
@@ -265,73 +215,16 @@ module _ (w : World) (law : Lawful w) (x : Record) (h : In x w.sessions) (e : is
 
   -- Causes
 
-  cause_of : (r s : Record) → CommitsTo x r s → has_cause r.state ≡ is_some r.cause → has_cause s.state ≡ is_some s.cause
+  cause_of : (r s : Record) → CommitsTo x r s → has_cause r.state ≡ is_some r.cause
+      → has_cause s.state ≡ is_some s.cause
   cause_of r s (Taken d f) is = subst (λ (s : Record). has_cause s.state ≡ is_some s.cause) (sym f) is
   cause_of r s (GivesWay d wait f) is = subst (λ (s : Record). has_cause s.state ≡ is_some s.cause) (sym f) refl
   cause_of r s (Stays d g f) is = subst (λ (s : Record). has_cause s.state ≡ is_some s.cause) (sym f) is
 
+  -- sessions that failed have a cause, and no others
   pub commit_causes : (s : Record) → In s after → has_cause s.state ≡ is_some s.cause
   commit_causes s i =
       elim (members w.sessions x print s i) [
         | inl f ↦ subst (λ (s : Record). has_cause s.state ≡ is_some s.cause) (sym f) refl
         | inr (r, j, c) ↦ cause_of r s c (law.causes r j)
       ]
-
-  -- Rollbacks
-
-  new_rollback : HasRollback new
-  new_rollback = record {
-    kind = refl;
-    enabling = λ f. absurd (false≢true f);
-    available = λ f. absurd (false≢true f);
-    committed = λ f. absurd (false≢true f);
-    none = λ f. refl;
-    not_yet = λ f. refl;
-  }
-
-  rollback_of : (r s : Record) → In r w.sessions → CommitsTo x r s → HasRollback r → HasRollback s
-  rollback_of r s i (Taken d f) is =
-      let one = one_session w.sessions r x law.ids.ascend i h d in
-      subst HasRollback (sym f) (record {
-        kind = sym (ap (λ (r : Record). rolls_back r.kind) one ∙ rolls w law x h e);
-        enabling = λ g. absurd (false≢true g);
-        available = λ g. absurd (false≢true g);
-        committed = λ g. ap (λ (r : Record). is_success r.state) one ∙ success;
-        none = λ g. absurd (false≢true (sym g));
-        not_yet = λ g. absurd (false≢true g);
-      })
-  rollback_of r s i (GivesWay d wait f) is =
-      subst HasRollback (sym f) (record {
-        kind = not_enabled_some r.rollback ∙ is.kind;
-        enabling = λ g. absurd (not_enabled_never r.rollback g);
-        available = λ g. absurd (false≢true (sym (waits_never r.state wait).1
-            ∙ is.available (not_enabled_available r.rollback g)));
-        committed = λ g. absurd (false≢true (sym (waits_never r.state wait).1
-            ∙ is.committed (sym (not_enabled_committed r.rollback) ∙ g)));
-        none = λ g. is.none (sym (not_enabled_some r.rollback) ∙ g);
-        not_yet = λ g. absurd (not_enabled_never r.rollback g);
-      })
-  rollback_of r s i (Stays d g f) is = subst HasRollback (sym f) is
-
-  available_peers : AllPeers NotBothAvailable after
-  available_peers r s name i j d n m u v =
-      elim (members w.sessions x print r i) [
-        | inl f ↦ false≢true (ap (λ (r : Record). is_available r.rollback) (sym f) ∙ u)
-        | inr (a, k, c) ↦ elim (members w.sessions x print s j) [
-          | inl g ↦ false≢true (ap (λ (r : Record). is_available r.rollback) (sym g) ∙ v)
-          | inr (b, l, c') ↦ law.rollbacks.peers a b name k l
-              (λ same. d (ap (λ (id : SessionId). id.0) (leaves x a r c).kept.id ∙ same
-              ∙ ap (λ (id : SessionId). id.0) (sym (leaves x b s c').kept.id)))
-              (named_before a r name (leaves x a r c) n) (named_before b s name (leaves x b s c') m)
-              (was_available x a r c u) (was_available x b s c' v)
-        ]
-      ]
-
-  pub commit_rollbacks : HaveRollbacks after
-  commit_rollbacks = record {
-    each = λ s i. elim (members w.sessions x print s i) [
-      | inl f ↦ subst HasRollback (sym f) new_rollback
-      | inr (r, j, c) ↦ rollback_of r s j c (law.rollbacks.each r j)
-    ];
-    peers = available_peers;
-  }

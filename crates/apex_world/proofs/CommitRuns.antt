@@ -1,21 +1,16 @@
--- Commits of rollbacks keep worlds running. Callers want `committed_running`, `commit_running`, `all_running`,
--- `triggered_running` and `forgetting_running`.
-use Rattle.std.proofs.Common.{◌≡◌, ◌≢◌, ℕ, ◌≤◌, Bool, true, false, ◌&&◌, ◌||◌, IsTrue, IfSome, is_some, List, [], ◌∷◌}
-use Rattle.std.proofs.Common.{filter, find, Option, Some, None, Result, Ok, Err, sym, ap, subst, ◌∙◌, refl, inl, inr, arith}
+-- The commit of a rollback keeps a world running. Callers want `committed_running`, `eligible_available` and
+-- `eligible_free`.
+use Rattle.std.proofs.Common.{◌≡◌, ℕ, ◌≤◌, Bool, true, false, ◌&&◌, ◌||◌, IsTrue, IfSome, is_some, List}
+use Rattle.std.proofs.Common.{Option, Some, None, sym, ap, subst, ◌∙◌, refl, inl, inr}
 use Rattle.std.specs.Prelude.{not}
-use Rattle.std.specs.List.{list_any}
-use Rattle.std.specs.Str.{bytes_eq}
 use Rattle.std.proofs.lemmas.Bool.{and_parts, and_from, or_cases, or_left, or_right, false≢true}
 use Rattle.apex_base.specs.declared.numbers.Scale.{Scale}
-use Rattle.apex_base.specs.declared.numbers.SessionId.{SessionId}
-use Rattle.apex_base.specs.declared.records.Kind.{Kind}
-use Rattle.apex_base.specs.declared.records.Part.{Part}
 use Rattle.apex_base.specs.declared.records.Record.{Record}
 use Rattle.apex_base.specs.declared.records.State.{State}
 use Rattle.apex_base.specs.declared.records.State.TheVariants as state
-use Rattle.apex_base.specs.Commit.{committed, after_commit}
+use Rattle.apex_base.specs.Commit.{committed}
 use Rattle.apex_base.specs.Held.{is_unfinished, is_undoable, is_available}
-use Rattle.apex_base.specs.Members.{In, EachPair}
+use Rattle.apex_base.specs.Members.{In}
 use Rattle.apex_base.specs.Numbers.{scale_modules}
 use Rattle.apex_base.specs.Rollbacks.{is_eligible, is_in_use}
 use Rattle.apex_base.specs.Sessions.{names, shares}
@@ -27,16 +22,16 @@ use Rattle.apex_world.specs.Bounds.{can_be_rolled_back, is_ready_rollback, name_
 use Rattle.apex_world.specs.Lawful.{Lawful, IsRunningImage}
 use Rattle.apex_world.specs.Rows.{undoes, is_staged}
 use Rattle.apex_world.specs.Running.{Running, is_activated, is_of_image, runs}
-use Rattle.apex_world.specs.Selection.{preinstalled}
 use Rattle.apex_world.specs.Submit.{print_of, in_running}
 use Rattle.apex_world.specs.World.{World}
 use Rattle.apex_world.proofs.CommitKept.{commit_modules, commit_bounds}
-use Rattle.apex_world.proofs.CommitOne.{CommitsTo, leaves, made, members, was_so}
+use Rattle.apex_world.proofs.CommitOne.{leaves, members, was_so}
 use Rattle.apex_world.proofs.CommitParts.{commit_ids, commit_parts, commit_ranges}
-use Rattle.apex_world.proofs.CommitPeers.{IsFree, commit_alone, commit_activations, commit_causes, commit_rollbacks}
-use Rattle.apex_world.proofs.CommitPeers.{same_names, was_available}
+use Rattle.apex_world.proofs.CommitPeers.{IsFree, commit_alone, commit_activations, commit_causes, same_names}
+use Rattle.apex_world.proofs.CommitPeers.{named_before}
+use Rattle.apex_world.proofs.CommitRollbacks.{commit_rollbacks, was_available}
 use Rattle.apex_world.proofs.CommitUndone.{commit_undone}
-use Rattle.apex_world.proofs.NameCounts.{AreApart, names_within}
+use Rattle.apex_world.proofs.NameCounts.{names_within}
 
 staged_unfinished : (s : State) → is_staged s ≡ true → is_unfinished s ≡ true
 staged_unfinished state.Verified e = absurd (cc)
@@ -55,15 +50,16 @@ not_both : (b : Bool) → not b ≡ true → b ≡ true → ⊥
 not_both true e f = false≢true e
 not_both false e f = false≢true f
 
--- what can be committed is available, and no session that can be undone shares a name with it
-
+-- what can be committed is available
 pub eligible_available : (ss : List Record) (x : Record) → is_eligible ss x ≡ true → is_available x.rollback ≡ true
 eligible_available ss x e = (and_parts (is_available x.rollback) (not (is_in_use ss x)) e).0
 
+-- and no session that can be undone shares a name with it
 pub eligible_free : (ss : List Record) (x : Record) → is_eligible ss x ≡ true → IsFree ss x
 eligible_free ss x e r h u s =
     not_both (is_in_use ss x) (and_parts (is_available x.rollback) (not (is_in_use ss x)) e).1
-    (in_any (λ (r : Record). is_undoable r.state && shares x r) r ss h (and_from (is_undoable r.state) (shares x r) u s))
+    (in_any (λ (r : Record). is_undoable r.state && shares x r) r ss h
+    (and_from (is_undoable r.state) (shares x r) u s))
 
 -- the fingerprint of what runs
 running_print : (scale : Scale) (o : Option Image) → is_some o ≡ true → IfSome o (IsRunningImage scale)
@@ -107,7 +103,7 @@ module _ (w : World) (run : Running w) (x : Record) (h : In x w.sessions) (e : i
                         (is_staged r.state) (ap undoes (sym l.kept.kind) ∙ both.0)
                         (was_so r s l is_staged refl both.1))
                   ])
-            ]) (ap (λ (ps : List Part). list_any (λ (p : Part). bytes_eq p.name name) ps) (sym l.kept.parts) ∙ n)
+            ]) (named_before r s name l n)
       ]
 
   few_waiting : name_count is_ready_rollback after ≤ scale_modules w.scale

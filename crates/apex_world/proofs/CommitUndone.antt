@@ -1,16 +1,14 @@
 -- Rollback sessions after a commit: each goes back to before a session whose rollback is committed, and what names held
 -- before a session stays. Callers want `before_after` and `commit_undone`.
-use Rattle.std.proofs.Common.{◌≡◌, ◌≢◌, ℕ, Bool, true, false, ◌&&◌, List, [], ◌∷◌, map, fold, Option, Some, None, sym, ap}
+use Rattle.std.proofs.Common.{◌≡◌, ◌≢◌, ℕ, Bool, true, ◌&&◌, List, [], ◌∷◌, map, fold, Option, Some, None, sym, ap}
 use Rattle.std.proofs.Common.{subst, ◌∙◌, refl, inl, inr}
 use Rattle.std.specs.Prelude.{nat_lt}
 use Rattle.std.proofs.lemmas.Bool.{cases_order, cases_eq, false≢true}
 use Rattle.apex_base.specs.declared.numbers.SessionId.{SessionId}
-use Rattle.apex_base.specs.declared.records.Kind.{Kind}
-use Rattle.apex_base.specs.declared.records.Kind.TheVariants.{Plain, WithRollback, RollbackOf}
+use Rattle.apex_base.specs.declared.records.Kind.TheVariants.{RollbackOf}
 use Rattle.apex_base.specs.declared.records.Part.{Part}
 use Rattle.apex_base.specs.declared.records.Record.{Record}
 use Rattle.apex_base.specs.declared.records.RollbackState.TheVariants as rollbacks
-use Rattle.apex_base.specs.declared.records.State.TheVariants as state
 use Rattle.apex_base.specs.declared.records.Target.{Target}
 use Rattle.apex_base.specs.Commit.{rollback_id, target_version, part_before, committed, after_commit}
 use Rattle.apex_base.specs.Held.{is_success, is_available, candidate, later, target_of, latest, before}
@@ -18,14 +16,15 @@ use Rattle.apex_base.specs.Members.{In}
 use Rattle.apex_base.specs.Rollbacks.{is_committed}
 use Rattle.apex_base.specs.Sessions.{session_of, with_session}
 use Rattle.apex_base.proofs.MemberLemmas.{in_map_back}
-use Rattle.apex_base.proofs.SessionLemmas.{of_in, of_found}
+use Rattle.apex_base.proofs.SessionLemmas.{of_in}
 use Rattle.apex_world.specs.Lawful.{Lawful, IsRollbackSession, HaveRollbackSessions, is_verified}
 use Rattle.apex_world.specs.World.{World}
-use Rattle.apex_world.proofs.CommitOne.{CommitsTo, Taken, GivesWay, Stays, Leaves, leaves, made, others, members, was_so}
+use Rattle.apex_world.proofs.CommitOne.{CommitsTo, Taken, GivesWay, Stays, Leaves, leaves, made, others, members}
 use Rattle.apex_world.proofs.CommitOne.{commits_to, made_apart, same_number, found_after}
 use Rattle.apex_world.proofs.CommitParts.{new_ids}
-use Rattle.apex_world.proofs.CommitPeers.{waits_never, still_committed, was_committed}
-use Rattle.apex_world.proofs.Found.{with_lt, with_eq, with_gt, of_with}
+use Rattle.apex_world.proofs.CommitPeers.{waits_never}
+use Rattle.apex_world.proofs.CommitRollbacks.{still_committed, was_committed}
+use Rattle.apex_world.proofs.Found.{with_lt, with_gt, of_with}
 use Rattle.apex_world.proofs.OpenedSessions.{one_session}
 
 -- The latest of sessions that change
@@ -68,6 +67,7 @@ module _ (name : List ℕ) where
       → latest test' (map f ss) name ≡ latest test ss name
   latest_map test test' f ss same = ap target_of (best_map test test' f ss None same)
 
+-- a commit makes no success, and undoes none
 pub success_same : (r s : Record) → Leaves r s → is_success s.state ≡ is_success r.state
 success_same r s l =
     elim l.goes [
@@ -169,16 +169,14 @@ module _ (w : World) (law : Lawful w) (x : Record) (h : In x w.sessions) (e : is
       elim (cases_eq r.id.0 x.id.0) [
         | inl same ↦
             let id : s.id ≡ x.id = l.kept.id
-                ∙ ap (λ (r : Record). r.id) (one_session w.sessions r x law.ids.ascend i h same) in
-            (
+            ∙ ap (λ (r : Record). r.id) (one_session w.sessions r x law.ids.ascend i h same) in (
               new,
               of_with new (others w.sessions x print) (rollback_id s.id)
                   (ap (λ (id : SessionId). (rollback_id id).0) (sym id)),
               ap (λ (id : SessionId). RollbackOf id) (sym id),
             )
         | inr d ↦
-            let (y, there, kind) = law.undone.forth r i (was_committed x r s c d f) in
-            (
+            let (y, there, kind) = law.undone.forth r i (was_committed x r s c d f) in (
               after_commit x y,
               found_after w.sessions x print (new_ids w law x h e) (rollback_id s.id) y
                   (ap (λ (id : SessionId). session_of w.sessions (rollback_id id)) l.kept.id ∙ there),
@@ -187,13 +185,13 @@ module _ (w : World) (law : Lawful w) (x : Record) (h : In x w.sessions) (e : is
             )
       ]
 
+  -- each committed rollback has its session, and each such session goes back to before the one that it undoes
   pub commit_undone : HaveRollbackSessions after
   commit_undone = record {
     back = λ s id i k. elim (members w.sessions x print s i) [
       | inl f ↦ subst GoesBack (sym f) new_goes_back id k
       | inr (r, j, c) ↦
-          let (z, there, is) = law.undone.back r id j (sym (leaves x r s c).kept.kind ∙ k) in
-          (
+          let (z, there, is) = law.undone.back r id j (sym (leaves x r s c).kept.kind ∙ k) in (
             after_commit x z,
             found_after w.sessions x print (new_ids w law x h e) id z there,
             still_undone r s z c is,

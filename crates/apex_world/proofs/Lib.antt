@@ -17,10 +17,12 @@ pub mod BootUndone
 pub mod BootWatches
 pub mod CallStays
 pub mod ChosenLemmas
+pub mod CommitCall
 pub mod CommitKept
 pub mod CommitOne
 pub mod CommitParts
 pub mod CommitPeers
+pub mod CommitRollbacks
 pub mod CommitRuns
 pub mod CommitStays
 pub mod CommitUndone

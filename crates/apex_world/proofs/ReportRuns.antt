@@ -1,7 +1,6 @@
 -- Reports keep worlds running: failures stand in their order, none after the clock. Callers want `report_running`.
-use Rattle.std.proofs.Common.{◌≡◌, ℕ, ◌≤◌, Bool, true, false, cond, ◌&&◌, max, IsTrue, List, [], ◌∷◌, ◌++◌, filter, Option}
-use Rattle.std.proofs.Common.{Some, None, Ok, sym, ap, subst, ◌∙◌, refl, inl, inr, arith}
-use Rattle.std.specs.List.{AllByRecursion}
+use Rattle.std.proofs.Common.{◌≡◌, ℕ, ◌≤◌, Bool, true, false, cond, ◌&&◌, max, IsTrue, List, [], ◌∷◌, ◌++◌, filter}
+use Rattle.std.proofs.Common.{Option, Some, None, Ok, sym, subst, refl, inl, inr, arith}
 use Rattle.std.specs.Ordering.{nat_cmp, eq_by_cmp}
 use Rattle.std.specs.Cmp.Lexicographic.{slice_cmp, nat_list_cmp_total}
 use Rattle.std.specs.FinMap as fin
@@ -9,7 +8,6 @@ use Rattle.std.specs.FinMap.{get-insert, get-remove}
 use Rattle.std.proofs.lemmas.Bool.{and_parts}
 use Rattle.apex_base.specs.declared.records.Reason.{Reason}
 use Rattle.apex_base.specs.declared.records.Reason.TheVariants as reason
-use Rattle.apex_base.specs.declared.records.Record.{Record}
 use Rattle.apex_base.specs.declared.refusal.Refusal.{Refusal}
 use Rattle.apex_base.specs.Members.{In, EachPair}
 use Rattle.apex_base.specs.Ranges.{IsMillis}
@@ -22,7 +20,7 @@ use Rattle.apex_base.proofs.MemberLemmas.{in_append, in_each, each_in}
 use Rattle.apex_world.specs.declared.calls.Observer.{Observer}
 use Rattle.apex_world.specs.declared.calls.Reply.TheVariants as reply
 use Rattle.apex_world.specs.Data.{unknown_module}
-use Rattle.apex_world.specs.Report.{failures_or, failures_of, rollbacks_for, report_trigger, at_once, counted_with, counted}
+use Rattle.apex_world.specs.Report.{failures_or, failures_of, rollbacks_for, report_trigger, at_once, counted}
 use Rattle.apex_world.specs.Report.{reported, report}
 use Rattle.apex_world.specs.Running.{Running}
 use Rattle.apex_world.specs.Stepped.{answered}
@@ -34,6 +32,7 @@ use Rattle.apex_world.proofs.TriggerRuns.{triggered_running}
 
 -- Moments in their order
 
+-- none is before an earlier one
 abbrev pub AreSorted : List ℕ → Type 0
 AreSorted ms = EachPair (λ m n. m ≤ n) ms
 
