@@ -7,6 +7,7 @@ pub mod BootTurns
 pub mod CallStays
 pub mod ChosenLemmas
 pub mod CommitStays
+pub mod DataRuns
 pub mod DataWeightLemmas
 pub mod EmptyLemmas
 pub mod Found
@@ -18,6 +19,8 @@ pub mod Lasting
 pub mod LatestLemmas
 pub mod LeadsLemmas
 pub mod MovesAlike
+pub mod NameCounts
+pub mod NamedMaps
 pub mod NewIds
 pub mod OpenedBoots
 pub mod OpenedEras
@@ -33,10 +36,12 @@ pub mod RevertAlike
 pub mod RollbackDataLemmas
 pub mod RollbackIds
 pub mod RowWeightLemmas
+pub mod RunningLemmas
 pub mod ShortForms
 pub mod StoredAlikeLemmas
 pub mod SuccessAlike
 pub mod TurnLemmas
+pub mod WatchRuns
 pub mod WholeBoot
 pub mod WholeCalls
 pub mod WholenessLemmas

@@ -16,7 +16,7 @@ pub use calls::{
     Observer, ObserverKind, ObserverList, Reply,
 };
 pub use laws::{
-    activated_sessions_are_whole, empty_world_is_lawful, plain_worlds_do_less,
+    activated_sessions_are_whole, calls_keep_running, empty_world_is_lawful, plain_worlds_do_less,
     plain_worlds_stay_plain, refusals_change_nothing, rollbacks_bring_back_data, sessions_stay,
 };
 pub use modules::{
