@@ -37,10 +37,14 @@ pub mod RollbackDataLemmas
 pub mod RollbackIds
 pub mod RowWeightLemmas
 pub mod RunningLemmas
+pub mod SessionMaps
 pub mod ShortForms
 pub mod StoredAlikeLemmas
 pub mod SuccessAlike
 pub mod TurnLemmas
+pub mod TurnedLemmas
+pub mod TurnedRuns
+pub mod TurnedSessions
 pub mod WatchRuns
 pub mod WholeBoot
 pub mod WholeCalls
