@@ -19,6 +19,7 @@ pub mod Lasting
 pub mod LatestLemmas
 pub mod LeadsLemmas
 pub mod MovesAlike
+pub mod MovesRun
 pub mod NameCounts
 pub mod NamedMaps
 pub mod NewIds
