@@ -34,6 +34,7 @@ pub mod PlainLemmas
 pub mod RefusedLemmas
 pub mod Restored
 pub mod RevertAlike
+pub mod RevertRuns
 pub mod RollbackDataLemmas
 pub mod RollbackIds
 pub mod RowWeightLemmas
@@ -42,6 +43,7 @@ pub mod SessionMaps
 pub mod ShortForms
 pub mod StoredAlikeLemmas
 pub mod SuccessAlike
+pub mod SuccessRuns
 pub mod TurnLemmas
 pub mod TurnedLemmas
 pub mod TurnedRuns

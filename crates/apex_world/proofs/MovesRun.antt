@@ -101,7 +101,7 @@ is_aborted s (inr e) = subst (λ (s : State). IsMove s state.Aborted) (sym e) (r
   staged = λ e f. refl;
 })
 
-is_reverting : IsMove state.Activated state.RevertInProgress
+pub is_reverting : IsMove state.Activated state.RevertInProgress
 is_reverting = record {
   unfinished = λ e. refl;
   undoable = λ e. refl;
@@ -279,7 +279,7 @@ module _ (w : World) (run : Running w) (r s : Record) (h : In r w.sessions) (sam
   placed_running = subst (λ (ss : List Record). Running (record w { sessions = ss; clock = w.clock })) (sym as_map)
       (turned_running w run g ids turns apart w.clock (le_refl w.clock) run.lawful.ranges.clock)
 
-moved_kept : (r : Record) (t : State) (o : Option RollbackState) → IsKeptAs r (record r { state = t; rollback = o })
+pub moved_kept : (r : Record) (t : State) (o : Option RollbackState) → IsKeptAs r (record r { state = t; rollback = o })
 moved_kept r t o = record { id = refl; children = refl; kind = refl; parts = refl; print = refl }
 
 abort_some : (o : Option RollbackState) → is_some (rollback_after step_of.Abort o) ≡ is_some o
