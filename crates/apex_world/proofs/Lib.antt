@@ -1,3 +1,4 @@
+pub mod AdmittedLemmas
 pub mod AlikeAfter
 pub mod AlikeLemmas
 pub mod BootFollows
@@ -41,6 +42,7 @@ pub mod RowWeightLemmas
 pub mod RunningLemmas
 pub mod SessionMaps
 pub mod ShortForms
+pub mod SoundRanges
 pub mod StoredAlikeLemmas
 pub mod SuccessAlike
 pub mod SuccessRuns
