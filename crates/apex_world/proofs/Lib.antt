@@ -24,6 +24,7 @@ pub mod MovesRun
 pub mod NameCounts
 pub mod NamedMaps
 pub mod NewIds
+pub mod NewParts
 pub mod OpenedBoots
 pub mod OpenedEras
 pub mod OpenedLemmas
