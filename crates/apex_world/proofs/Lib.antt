@@ -25,6 +25,7 @@ pub mod NameCounts
 pub mod NamedMaps
 pub mod NewIds
 pub mod NewParts
+pub mod NewSession
 pub mod OpenedBoots
 pub mod OpenedEras
 pub mod OpenedLemmas
@@ -45,6 +46,7 @@ pub mod SessionMaps
 pub mod ShortForms
 pub mod SoundRanges
 pub mod StoredAlikeLemmas
+pub mod SubmitRuns
 pub mod SuccessAlike
 pub mod SuccessRuns
 pub mod TurnLemmas

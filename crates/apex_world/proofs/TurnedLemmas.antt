@@ -70,14 +70,14 @@ weight_less ts us modules less =
       | inr i ↦ in_any (is_module s.session s.part) t us i f
     ]))
 
-part_of_target : (p : Part) (t u : Target) → t ≡ u → ◌≡◌ {A = Part} (record {
+pub part_of_target : (p : Part) (t u : Target) → t ≡ u → ◌≡◌ {A = Part} (record {
       name = p.name;
       version = target_version t;
       target = t;
     }) (record { name = p.name; version = target_version u; target = u })
 part_of_target p t u e = ap (λ (t : Target). record { name = p.name; version = target_version t; target = t }) e
 
-map_alike : {X Y : Type 0} (f g : X → Y) (xs : List X) → ((x : X) → In x xs → f x ≡ g x) → map f xs ≡ map g xs
+pub map_alike : {X Y : Type 0} (f g : X → Y) (xs : List X) → ((x : X) → In x xs → f x ≡ g x) → map f xs ≡ map g xs
 map_alike f g [] same = refl
 map_alike f g (x ∷ xs) same =
     ap (λ y. y ∷ map f xs) (same x (inl refl)) ∙ ap (λ ys. g x ∷ ys) (map_alike f g xs (λ y h. same y (inr h)))
