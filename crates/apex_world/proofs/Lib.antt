@@ -6,8 +6,17 @@ pub mod BootSessions
 pub mod BootStays
 pub mod BootTurns
 pub mod CallStays
+pub mod CallsRun
 pub mod ChosenLemmas
+pub mod CommitCall
+pub mod CommitKept
+pub mod CommitOne
+pub mod CommitParts
+pub mod CommitPeers
+pub mod CommitRollbacks
+pub mod CommitRuns
 pub mod CommitStays
+pub mod CommitUndone
 pub mod DataRuns
 pub mod DataWeightLemmas
 pub mod EmptyLemmas
@@ -35,6 +44,7 @@ pub mod OpenedTables
 pub mod OwnTargets
 pub mod PlainLemmas
 pub mod RefusedLemmas
+pub mod ReportRuns
 pub mod Restored
 pub mod RevertAlike
 pub mod RevertRuns
@@ -49,6 +59,7 @@ pub mod StoredAlikeLemmas
 pub mod SubmitRuns
 pub mod SuccessAlike
 pub mod SuccessRuns
+pub mod TriggerRuns
 pub mod TurnLemmas
 pub mod TurnedLemmas
 pub mod TurnedRuns

@@ -88,8 +88,13 @@ module _ (test : Record → Bool) where
   length_passing [] = refl
   length_passing (r ∷ ss) =
       let rest = length_passing ss in
-      omega (arith, rest, length_if (test r) r, length-append (names_if (test r) r) (passing ss),
-      sum_by-cons (λ (r : Record). cond (test r) (length r.parts) 0) r ss)
+      omega (
+        arith,
+        rest,
+        length_if (test r) r,
+        length-append (names_if (test r) r) (passing ss),
+        sum_by-cons (λ (r : Record). cond (test r) (length r.parts) 0) r ss,
+      )
 
   -- no two sessions that pass share a name, and the names of each differ
   pub record AreApart (ss : List Record) : Type 0 where

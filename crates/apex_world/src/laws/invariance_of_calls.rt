@@ -1,11 +1,8 @@
 //! The law of calls that keep worlds running.
-ghost use Rattle.std.specs.Prelude.{◌≡◌, ℕ, List};
-ghost use Rattle.apex_base.specs.declared.numbers.Scale.{Scale};
 ghost use Rattle.apex_world.specs.Invariance.{CallsKeepRunning};
-ghost use Rattle.apex_world.specs.Lawful.{Lawful};
-ghost use Rattle.apex_world.specs.World.{empty_world};
 
-/// Each call keeps a running world running.
+/// Each call whose values are within the ranges of their types keeps a running world running: lawful, with an image that
+/// has each name that is activated, rolled back, watched or has data, and with counted failures in their order.
 pub fn calls_keep_running()
-    ensures { (scale : Scale) → Lawful (empty_world scale) }
+    ensures { CallsKeepRunning }
 {}

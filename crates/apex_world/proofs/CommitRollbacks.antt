@@ -1,0 +1,138 @@
+-- Rollbacks of sessions after a commit. Callers want `commit_rollbacks`, `was_available`, `still_committed` and
+-- `was_committed`.
+use Rattle.std.proofs.Common.{◌≡◌, ◌≢◌, ℕ, true, is_some, List, Option, Some}
+use Rattle.std.proofs.Common.{None, sym, ap, subst, ◌∙◌, refl, inl, inr}
+use Rattle.std.proofs.lemmas.Bool.{false≢true}
+use Rattle.apex_base.specs.declared.numbers.SessionId.{SessionId}
+use Rattle.apex_base.specs.declared.records.Record.{Record}
+use Rattle.apex_base.specs.declared.records.RollbackState.{RollbackState}
+use Rattle.apex_base.specs.declared.records.RollbackState.TheVariants as rollbacks
+use Rattle.apex_base.specs.Commit.{committed, rolls_back}
+use Rattle.apex_base.specs.Held.{is_success, is_available}
+use Rattle.apex_base.specs.Members.{In}
+use Rattle.apex_base.specs.Rollbacks.{is_enabling, is_committed, not_enabled}
+use Rattle.apex_world.specs.Lawful.{Lawful, AllPeers, HasRollback, HaveRollbacks, NotBothAvailable}
+use Rattle.apex_world.specs.World.{World}
+use Rattle.apex_world.proofs.CommitOne.{CommitsTo, Taken, GivesWay, Stays, leaves, made, members}
+use Rattle.apex_world.proofs.CommitParts.{rolls}
+use Rattle.apex_world.proofs.OpenedSessions.{one_session}
+use Rattle.apex_world.proofs.CommitPeers.{waits_never, success, named_before}
+
+-- Rollbacks of sessions
+
+not_enabled_some : (o : Option RollbackState) → is_some (not_enabled o) ≡ is_some o
+not_enabled_some None = refl
+not_enabled_some (Some rollbacks.Enabling) = refl
+not_enabled_some (Some rollbacks.Available) = refl
+not_enabled_some (Some rollbacks.Committed) = refl
+not_enabled_some (Some rollbacks.Deleted) = refl
+
+not_enabled_never : (o : Option RollbackState) → is_enabling (not_enabled o) ≡ true → ⊥
+not_enabled_never None e = absurd (cc)
+not_enabled_never (Some rollbacks.Enabling) e = absurd (cc)
+not_enabled_never (Some rollbacks.Available) e = absurd (cc)
+not_enabled_never (Some rollbacks.Committed) e = absurd (cc)
+not_enabled_never (Some rollbacks.Deleted) e = absurd (cc)
+
+not_enabled_available : (o : Option RollbackState) → is_available (not_enabled o) ≡ true → is_available o ≡ true
+not_enabled_available None e = e
+not_enabled_available (Some rollbacks.Enabling) e = absurd (cc)
+not_enabled_available (Some rollbacks.Available) e = e
+not_enabled_available (Some rollbacks.Committed) e = absurd (cc)
+not_enabled_available (Some rollbacks.Deleted) e = absurd (cc)
+
+not_enabled_committed : (o : Option RollbackState) → is_committed (not_enabled o) ≡ is_committed o
+not_enabled_committed None = refl
+not_enabled_committed (Some rollbacks.Enabling) = refl
+not_enabled_committed (Some rollbacks.Available) = refl
+not_enabled_committed (Some rollbacks.Committed) = refl
+not_enabled_committed (Some rollbacks.Deleted) = refl
+
+-- what is available after a commit was available
+pub was_available : (x r s : Record) → CommitsTo x r s → is_available s.rollback ≡ true → is_available r.rollback ≡ true
+was_available x r s (Taken d e) f = absurd (false≢true (sym (ap (λ (r : Record). is_available r.rollback) e) ∙ f))
+was_available x r s (GivesWay d w e) f = not_enabled_available r.rollback
+    (ap (λ (r : Record). is_available r.rollback) (sym e) ∙ f)
+was_available x r s (Stays d w e) f = ap (λ (r : Record). is_available r.rollback) (sym e) ∙ f
+
+-- what was committed stays so
+pub still_committed : (x r s : Record) → CommitsTo x r s → is_committed r.rollback ≡ true
+    → is_committed s.rollback ≡ true
+still_committed x r s (Taken d e) f = ap (λ (r : Record). is_committed r.rollback) e
+still_committed x r s (GivesWay d w e) f = ap (λ (r : Record). is_committed r.rollback) e
+    ∙ not_enabled_committed r.rollback ∙ f
+still_committed x r s (Stays d w e) f = ap (λ (r : Record). is_committed r.rollback) e ∙ f
+
+-- another one that is committed was committed
+pub was_committed : (x r s : Record) → CommitsTo x r s → r.id.0 ≢ x.id.0 → is_committed s.rollback ≡ true
+    → is_committed r.rollback ≡ true
+was_committed x r s (Taken d e) apart f = absurd (apart d)
+was_committed x r s (GivesWay d w e) apart f = sym (not_enabled_committed r.rollback)
+    ∙ ap (λ (r : Record). is_committed r.rollback) (sym e) ∙ f
+was_committed x r s (Stays d w e) apart f = ap (λ (r : Record). is_committed r.rollback) (sym e) ∙ f
+
+module _ (w : World) (law : Lawful w) (x : Record) (h : In x w.sessions) (e : is_available x.rollback ≡ true)
+    (print : List ℕ) where
+  abbrev new : Record
+  new = made w.sessions x print
+
+  abbrev after : List Record
+  after = committed w.sessions x print
+
+  new_rollback : HasRollback new
+  new_rollback = record {
+    kind = refl;
+    enabling = λ f. absurd (false≢true f);
+    available = λ f. absurd (false≢true f);
+    committed = λ f. absurd (false≢true f);
+    none = λ f. refl;
+    not_yet = λ f. refl;
+  }
+
+  rollback_of : (r s : Record) → In r w.sessions → CommitsTo x r s → HasRollback r → HasRollback s
+  rollback_of r s i (Taken d f) is =
+      let one = one_session w.sessions r x law.ids.ascend i h d in
+      subst HasRollback (sym f) (record {
+        kind = sym (ap (λ (r : Record). rolls_back r.kind) one ∙ rolls w law x h e);
+        enabling = λ g. absurd (false≢true g);
+        available = λ g. absurd (false≢true g);
+        committed = λ g. ap (λ (r : Record). is_success r.state) one ∙ success w law x h e print;
+        none = λ g. absurd (false≢true (sym g));
+        not_yet = λ g. absurd (false≢true g);
+      })
+  rollback_of r s i (GivesWay d wait f) is =
+      subst HasRollback (sym f) (record {
+        kind = not_enabled_some r.rollback ∙ is.kind;
+        enabling = λ g. absurd (not_enabled_never r.rollback g);
+        available = λ g. absurd (false≢true (sym (waits_never r.state wait).1
+            ∙ is.available (not_enabled_available r.rollback g)));
+        committed = λ g. absurd (false≢true (sym (waits_never r.state wait).1
+            ∙ is.committed (sym (not_enabled_committed r.rollback) ∙ g)));
+        none = λ g. is.none (sym (not_enabled_some r.rollback) ∙ g);
+        not_yet = λ g. absurd (not_enabled_never r.rollback g);
+      })
+  rollback_of r s i (Stays d g f) is = subst HasRollback (sym f) is
+
+  available_peers : AllPeers NotBothAvailable after
+  available_peers r s name i j d n m u v =
+      elim (members w.sessions x print r i) [
+        | inl f ↦ false≢true (ap (λ (r : Record). is_available r.rollback) (sym f) ∙ u)
+        | inr (a, k, c) ↦ elim (members w.sessions x print s j) [
+          | inl g ↦ false≢true (ap (λ (r : Record). is_available r.rollback) (sym g) ∙ v)
+          | inr (b, l, c') ↦ law.rollbacks.peers a b name k l
+              (λ same. d (ap (λ (id : SessionId). id.0) (leaves x a r c).kept.id ∙ same
+              ∙ ap (λ (id : SessionId). id.0) (sym (leaves x b s c').kept.id)))
+              (named_before a r name (leaves x a r c) n) (named_before b s name (leaves x b s c') m)
+              (was_available x a r c u) (was_available x b s c' v)
+        ]
+      ]
+
+  -- rollbacks fit the states of their sessions, and no two of a name are available
+  pub commit_rollbacks : HaveRollbacks after
+  commit_rollbacks = record {
+    each = λ s i. elim (members w.sessions x print s i) [
+      | inl f ↦ subst HasRollback (sym f) new_rollback
+      | inr (r, j, c) ↦ rollback_of r s j c (law.rollbacks.each r j)
+    ];
+    peers = available_peers;
+  }
