@@ -1,9 +1,9 @@
 -- What is known of a submit that nothing refuses. Callers want `admitted_is`, and what `IsAdmitted` says.
 use Rattle.std.proofs.Common.{◌≡◌, ◌≢◌, ◌⊎◌, ℕ, ◌+◌, ◌≤◌, Bool, true, false, cond, eqb, leb, ◌&&◌, ◌||◌, IsTrue, List, [], ◌∷◌}
-use Rattle.std.proofs.Common.{length, find, Option, Some, None, Result, Ok, Err, sym, ap, subst, ◌∙◌, refl, inl, inr, arith, is_some}
-use Rattle.std.specs.List.{list_any, AllByRecursion}
+use Rattle.std.proofs.Common.{length, find, Option, Some, None, Result, Ok, Err, sym, ap, subst, ◌∙◌, refl, inl, inr, arith}
+use Rattle.std.specs.List.{list_any}
 use Rattle.std.specs.Str.{bytes_eq}
-use Rattle.std.proofs.lemmas.Bool.{false≢true, and_parts, and_from, or_parts, or_left, eqb-true, eq-eqb, leb-true}
+use Rattle.std.proofs.lemmas.Bool.{false≢true, and_parts, and_from, or_parts, eqb-true, eq-eqb, leb-true}
 use Rattle.apex_base.specs.declared.fault.ModuleFault.{ModuleFault}
 use Rattle.apex_base.specs.declared.numbers.SessionId.{SessionId}
 use Rattle.apex_base.specs.declared.records.Record.{Record}
@@ -73,8 +73,7 @@ pub ids_differ : (ss : List Record) (earlier ids : List SessionId) → id_taken 
 ids_differ ss earlier [] e = tt
 ids_differ ss earlier (id ∷ ids) e =
     let (free, rest) = taken_if (is_taken ss id || list_any (λ e. eqb e.0 id.0) earlier) id
-    (id_taken ss (id ∷ earlier) ids) e in
-    (
+    (id_taken ss (id ∷ earlier) ids) e in (
       in_each (λ (b : SessionId). id.0 ≢ b.0) ids (λ b h. not_earlier ss (id ∷ earlier) ids rest id b (inl refl) h),
       ids_differ ss (id ∷ earlier) ids rest,
     )
@@ -126,19 +125,21 @@ packages_are k (m ∷ ms) ps e =
     let same : p ∷ qs ≡ ps = cc in
     let (count, each) = packages_are (k + 1) ms qs b in
     let first = package_if k m p (checked m) refl a in
-    subst (λ (ps : List Package). (length ps ≡ length (m ∷ ms)) × ((q : Package) → In q ps → IsPackageOf (m ∷ ms) q)) same
-    (omega (arith, count), λ q h. elim h [
-      | inl is ↦ subst (IsPackageOf (m ∷ ms)) is (record {
-        among = elim first.among [
-          | inl there ↦ inl there
-          | inr none ↦ absurd none
-        ];
-        checks = first.checks;
-        name = first.name;
-        version = first.version;
-      })
-      | inr i ↦ package_more m ms q (λ x j. inr j) (each q i)
-    ])
+    subst (λ (ps : List Package). (length ps ≡ length (m ∷ ms)) × ((q : Package) → In q ps → IsPackageOf (m ∷ ms) q)) same (
+      omega (arith, count),
+      λ q h. elim h [
+        | inl is ↦ subst (IsPackageOf (m ∷ ms)) is (record {
+          among = elim first.among [
+            | inl there ↦ inl there
+            | inr none ↦ absurd none
+          ];
+          checks = first.checks;
+          name = first.name;
+          version = first.version;
+        })
+        | inr i ↦ package_more m ms q (λ x j. inr j) (each q i)
+      ],
+    )
 
 -- no name stands twice
 not_named : (earlier ps : List Package) → twice_named earlier ps ≡ None → (a b : Package) → In a earlier → In b ps
@@ -161,8 +162,7 @@ pub once_named : (earlier ps : List Package) → twice_named earlier ps ≡ None
     → EachPair (λ (p q : Package). p.name ≢ q.name) ps
 once_named earlier [] e = tt
 once_named earlier (p ∷ ps) e =
-    let rest = twice_rest (list_any (λ e. bytes_eq e.name p.name) earlier) p.name (twice_named (p ∷ earlier) ps) e in
-    (
+    let rest = twice_rest (list_any (λ e. bytes_eq e.name p.name) earlier) p.name (twice_named (p ∷ earlier) ps) e in (
       in_each (λ (q : Package). p.name ≢ q.name) ps (λ q h. not_named (p ∷ earlier) ps rest p q (inl refl) h),
       once_named (p ∷ earlier) ps rest,
     )

@@ -1,11 +1,10 @@
 -- Each call keeps a running world running: `calls_run`.
 use Rattle.apex_world.specs.declared.calls.Call.{Call}
 use Rattle.apex_world.specs.declared.calls.Call.TheVariants as calls
-use Rattle.apex_world.specs.Invariance.{IsCall, CallsKeepRunning}
-use Rattle.apex_world.specs.Report.{commit, report}
+use Rattle.apex_world.specs.Invariance.{IsCall}
 use Rattle.apex_world.specs.Running.{Running}
-use Rattle.apex_world.specs.Step.{step, state_of, told}
-use Rattle.apex_world.specs.Stepped.{Stepped, answered}
+use Rattle.apex_world.specs.Step.{step, told}
+use Rattle.apex_world.specs.Stepped.{answered}
 use Rattle.apex_world.specs.World.{World}
 use Rattle.std.proofs.Common.{List, ℕ, Option, Some, None, Result, Ok, Err, find}
 use Rattle.apex_base.specs.declared.numbers.SessionId.{SessionId}

@@ -1,25 +1,20 @@
 -- Worlds run on after Put and Drop. Callers want `put_running` and `drop_running`.
-use Rattle.std.proofs.Common.{◌≡◌, ◌≢◌, ℕ, ◌+◌, ◌≤◌, max, Bool, true, false, cond, IsTrue, List, [], ◌∷◌, map, Option, Some, None, sym, ap, subst, ◌∙◌, refl, inl, inr, arith, is_some, fold, leb, Result, Ok, Err}
-use Rattle.std.specs.Prelude.{IfSome, sum}
-use Rattle.std.specs.List.{list_any, sum_by}
-use Rattle.std.specs.Str.{bytes_eq}
+use Rattle.std.proofs.Common.{◌≡◌, ℕ, ◌≤◌, Bool, true, false, cond, IsTrue, List, Option, Some, None, sym, ap, subst, ◌∙◌, refl, inl, inr, arith, is_some, Ok}
 use Rattle.std.specs.FinMap as fin
 use Rattle.std.proofs.lemmas.Bool.{leb-true}
 use Rattle.std.proofs.lemmas.List.Sums.{sum-map}
 use Rattle.apex_base.specs.declared.refusal.Refusal.{Refusal}
-use Rattle.apex_base.specs.Members.{In}
 use Rattle.apex_base.specs.Numbers.{scale_data_weight}
-use Rattle.apex_base.specs.Ranges.{IsMillis}
 use Rattle.apex_base.specs.Results.{◌>>=◌}
 use Rattle.apex_base.specs.RowSums.{entry_weight}
 use Rattle.apex_base.specs.Tables.{NameMap, Table, part_of, value_of, with_value, without_value}
 use Rattle.apex_base.specs.Text.{is_name}
-use Rattle.apex_world.specs.Data.{part_weight, data_weight, unknown_module, data_full, with_entry, found, value_at, put, drop}
+use Rattle.apex_world.specs.Data.{part_weight, data_weight, unknown_module, data_full, with_entry, found, put, drop}
 use Rattle.apex_world.specs.Lawful.{IsTable}
-use Rattle.apex_world.specs.Running.{Running, runs, is_registered}
+use Rattle.apex_world.specs.Running.{Running, runs}
 use Rattle.apex_world.specs.Stepped.{replied}
 use Rattle.apex_world.specs.Submit.{pass}
-use Rattle.apex_world.specs.World.{World, Contents, Watches}
+use Rattle.apex_world.specs.World.{World, Contents}
 use Rattle.apex_world.proofs.NamedMaps.{named_sum, part_with, some_with, there_with, get_removed, value_with, value_without}
 use Rattle.apex_world.proofs.RunningLemmas.{with_contents}
 use Rattle.apex_world.proofs.WorldRows.{in_part}

@@ -1,10 +1,8 @@
 -- Worlds run on after Ready, Abort and Revert. Callers want `ready_running`, `abort_running`, `revert_running`, and of
 -- one session `IsMove`, `turn_from`, `rollback_as`, `turn_self` and `turn_put`.
-use Rattle.std.proofs.Common.{◌≡◌, ◌≢◌, ◌⊎◌, ℕ, ◌≤◌, Bool, true, false, cond, eqb, ◌&&◌, ◌||◌, List, map, Option, Some, None, le_refl}
-use Rattle.std.proofs.Common.{sym, ap, subst, ◌∙◌, refl, inl, inr, is_some, arith, map-id}
-use Rattle.std.specs.List.{list_any}
+use Rattle.std.proofs.Common.{◌≡◌, ◌≢◌, ◌⊎◌, Bool, true, false, cond, eqb, ◌||◌, List, map, Option, Some, None, le_refl}
+use Rattle.std.proofs.Common.{sym, ap, subst, ◌∙◌, refl, inl, inr, is_some, map-id}
 use Rattle.std.proofs.lemmas.Bool.{false≢true, and_parts, and_from, or_cases, or_left, or_right, eqb-true, eqb-false}
-use Rattle.apex_base.specs.declared.moves.Move.{Move}
 use Rattle.apex_base.specs.declared.moves.Move.TheVariants as step_of
 use Rattle.apex_base.specs.declared.numbers.SessionId.{SessionId}
 use Rattle.apex_base.specs.declared.records.Kind.{Kind}
@@ -14,22 +12,20 @@ use Rattle.apex_base.specs.declared.records.RollbackState.{RollbackState}
 use Rattle.apex_base.specs.declared.records.RollbackState.TheVariants.{Enabling, Available, Committed, Deleted}
 use Rattle.apex_base.specs.declared.records.State.{State}
 use Rattle.apex_base.specs.declared.records.State.TheVariants as state
-use Rattle.apex_base.specs.declared.refusal.Refusal.TheVariants.{NothingToRevert}
 use Rattle.apex_base.specs.Commit.{rolls_back}
 use Rattle.apex_base.specs.Held.{is_unfinished, is_undoable, is_available, is_standing, is_success}
 use Rattle.apex_base.specs.Members.{In}
 use Rattle.apex_base.specs.Moves.{moved}
 use Rattle.apex_base.specs.Ranges.{IsMillis}
 use Rattle.apex_base.specs.Rollbacks.{is_enabling, is_committed}
-use Rattle.apex_base.specs.Sessions.{session_of, with_session, Ascend}
+use Rattle.apex_base.specs.Sessions.{session_of, with_session}
 use Rattle.apex_base.proofs.SessionLemmas.{of_found}
-use Rattle.apex_world.specs.Advance.{rollback_after, move_to, move_found, ready, abort, in_state, reverting, revert}
+use Rattle.apex_world.specs.Advance.{rollback_after, move_to, move_found, ready, abort}
 use Rattle.apex_world.specs.Bounds.{can_be_rolled_back, is_ready_rollback}
 use Rattle.apex_world.specs.Follows.{IsKeptAs}
 use Rattle.apex_world.specs.Lawful.{Lawful, HasRollback, AllPeers, NotBothAvailable, never_activated, has_cause, is_verified}
 use Rattle.apex_world.specs.Rows.{undoes, is_staged}
-use Rattle.apex_world.specs.Running.{Running, is_activated, is_of_image}
-use Rattle.apex_world.specs.Stepped.{refused, done}
+use Rattle.apex_world.specs.Running.{Running, is_activated}
 use Rattle.apex_world.specs.World.{World}
 use Rattle.apex_world.proofs.LeadsLemmas as leads
 use Rattle.apex_world.proofs.OpenedSessions.{one_session}

@@ -1,11 +1,11 @@
 -- The parts and the modules of a new session. Callers want `parts_range`, `parts_length`, `parts_differ`, `parts_own`,
 -- `parts_versions`, `named_back`, `part_there`, `submitted_there` and `modules_differ`.
-use Rattle.std.proofs.Common.{◌≡◌, ◌≢◌, ℕ, zero, suc, ◌+◌, ◌<◌, ◌≤◌, Bool, true, false, cond, eqb, ◌&&◌, IsTrue, List, [], ◌∷◌, ◌++◌}
-use Rattle.std.proofs.Common.{length, find, Option, Some, None, sym, ap, subst, ◌∙◌, refl, inl, inr, arith, is_some}
+use Rattle.std.proofs.Common.{◌≡◌, ◌≢◌, ℕ, suc, ◌+◌, ◌<◌, ◌≤◌, Bool, true, false, cond, eqb, ◌&&◌, IsTrue, List, [], ◌∷◌, ◌++◌}
+use Rattle.std.proofs.Common.{length, find, Option, Some, None, sym, ap, subst, ◌∙◌, refl, inl, inr, arith}
 use Rattle.std.specs.Prelude.{slice_get}
 use Rattle.std.specs.List.{AllByRecursion}
 use Rattle.std.specs.Option.{option_map}
-use Rattle.std.proofs.lemmas.Bool.{and_parts, and_from, and_left, and_right, eq-eqb, ne_eqb, eqb-true, false≢true}
+use Rattle.std.proofs.lemmas.Bool.{and_from, and_left, and_right, eq-eqb, ne_eqb}
 use Rattle.apex_base.specs.declared.numbers.SessionId.{SessionId}
 use Rattle.apex_base.specs.declared.records.Part.{Part}
 use Rattle.apex_base.specs.declared.records.Target.TheVariants as targets
@@ -31,8 +31,7 @@ parts_range id k [] is few all = tt
 parts_range id k (p ∷ ps) is few all =
     let (name, version) = all p (inl refl) in
     let count : length (p ∷ ps) ≡ suc (length ps) = refl in
-    let low : k < 256 = omega (arith, few, count) in
-    (
+    let low : k < 256 = omega (arith, few, count) in (
       record { name = name; version = version; target = (is, low, version) },
       parts_range id (k + 1) ps is (omega (arith, few, count)) (λ q h. all q (inr h)),
     )

@@ -1,43 +1,41 @@
 -- A lawful world's sessions with a new one: ids, parts, activations, rollbacks, and what is kept. Callers want
 -- `record_new`, `parts_new`, `ids_with`, `peers_with`, `activations_with`, `undone_with`, `kept_with` and `sum_with`.
-use Rattle.std.proofs.Common.{◌≡◌, ◌≢◌, ◌⊎◌, ℕ, ◌+◌, ◌<◌, ◌≤◌, ◌^◌, Bool, true, false, cond, eqb, leb, ◌&&◌, ◌||◌, IsTrue, List, []}
-use Rattle.std.proofs.Common.{◌∷◌, length, map, fold, Option, Some, None, sym, ap, subst, ◌∙◌, refl, inl, inr, arith, is_some}
-use Rattle.std.specs.Prelude.{IfSome, nat_lt}
-use Rattle.std.specs.List.{sum_by, list_any, AllByRecursion}
+use Rattle.std.proofs.Common.{◌≡◌, ◌≢◌, ℕ, ◌+◌, ◌<◌, ◌≤◌, ◌^◌, Bool, true, false, leb, ◌&&◌, IsTrue, List, []}
+use Rattle.std.proofs.Common.{◌∷◌, fold, Option, Some, None, sym, ap, subst, ◌∙◌, refl, inl, inr, arith}
+use Rattle.std.specs.Prelude.{nat_lt}
+use Rattle.std.specs.List.{sum_by}
 use Rattle.std.specs.Str.{bytes_eq}
-use Rattle.std.proofs.lemmas.Bool.{false≢true, and_parts, cases_order, leb-true, cases_eq}
+use Rattle.std.proofs.lemmas.Bool.{false≢true, and_parts, cases_order, leb-true}
 use Rattle.std.proofs.lemmas.List.Sums.{sum_by-cons}
 use Rattle.apex_base.specs.declared.numbers.SessionId.{SessionId}
-use Rattle.apex_base.specs.declared.records.Kind.{Kind}
 use Rattle.apex_base.specs.declared.records.Kind.TheVariants.{RollbackOf}
 use Rattle.apex_base.specs.declared.records.Part.{Part}
 use Rattle.apex_base.specs.declared.records.Record.{Record}
 use Rattle.apex_base.specs.declared.records.Target.{Target}
-use Rattle.apex_base.specs.declared.records.Target.TheVariants as targets
-use Rattle.apex_base.specs.Commit.{rollback_id, part_before, target_version}
-use Rattle.apex_base.specs.Held.{is_unfinished, is_undoable, is_available, is_standing, is_success, candidate, later, target_of, latest, before, kept}
+use Rattle.apex_base.specs.Commit.{rollback_id, part_before}
+use Rattle.apex_base.specs.Held.{is_unfinished, is_available, is_standing, is_success, candidate, later, target_of, latest, before, kept}
 use Rattle.apex_base.specs.Members.{In, EachPair}
 use Rattle.apex_base.specs.Modules.{FileMap}
-use Rattle.apex_base.specs.Rollbacks.{is_committed, is_enabling}
-use Rattle.apex_base.specs.Sessions.{has_id, names, session_of, with_session, Ascend}
+use Rattle.apex_base.specs.Rollbacks.{is_committed}
+use Rattle.apex_base.specs.Sessions.{has_id, names, session_of, with_session}
 use Rattle.apex_base.specs.Spelling.{IsId, IsKind, IsRecord}
 use Rattle.apex_base.specs.Text.{is_print}
-use Rattle.apex_base.proofs.MemberLemmas.{any_in, in_any, in_each}
-use Rattle.apex_base.proofs.SessionLemmas.{ascend_with, with_any, with_others, with_self, of_found}
+use Rattle.apex_base.proofs.MemberLemmas.{any_in, in_each}
+use Rattle.apex_base.proofs.SessionLemmas.{ascend_with, with_any, with_others, of_found}
 use Rattle.apex_world.specs.declared.modules.Package.{Package}
 use Rattle.apex_world.specs.Follows.{IsNew}
 use Rattle.apex_world.specs.Lawful.{Lawful, HaveIds, HasParts, HasActivation, HaveActivations, HasRollback, HaveRollbackSessions}
-use Rattle.apex_world.specs.Lawful.{AllPeers, NotBothUnfinished, NotBothAvailable, AreActivatedApart, IsRollbackSession, ids_of}
+use Rattle.apex_world.specs.Lawful.{AllPeers, NotBothUnfinished, NotBothAvailable, AreActivatedApart, ids_of}
 use Rattle.apex_world.specs.Rows.{undoes}
-use Rattle.apex_world.specs.Submit.{is_caller_id, kind_of, rollback_of, parts_from, new_session}
+use Rattle.apex_world.specs.Submit.{kind_of, rollback_of, parts_from, new_session}
 use Rattle.apex_world.specs.World.{World, boots}
-use Rattle.apex_world.proofs.AdmittedLemmas.{IsAdmitted, IsPackageOf, ids_differ}
+use Rattle.apex_world.proofs.AdmittedLemmas.{IsAdmitted, ids_differ}
 use Rattle.apex_world.proofs.Found.{with_lt, with_eq, with_gt, of_other}
-use Rattle.apex_world.proofs.KeptLemmas.{AreOrdered, ordered, names_own}
-use Rattle.apex_world.proofs.KeptLess.{Goes, IsFresh, Carries, Comes, kept_less}
+use Rattle.apex_world.proofs.KeptLemmas.{AreOrdered, ordered}
+use Rattle.apex_world.proofs.KeptLess.{IsFresh, Carries, Comes, kept_less}
 use Rattle.apex_world.proofs.LeadsLemmas.{new_id}
 use Rattle.apex_world.proofs.MovesAlike.{goes_self}
-use Rattle.apex_world.proofs.NewIds.{has_in, in_has, submit_new}
+use Rattle.apex_world.proofs.NewIds.{has_in, submit_new}
 use Rattle.apex_world.proofs.NewParts.{parts_range, parts_length, named_back, parts_differ, parts_own, parts_versions}
 use Rattle.apex_world.proofs.TurnedLemmas.{part_of_target, map_alike}
 use Rattle.apex_world.proofs.WorldRows.{same_id, same_name}
@@ -241,7 +239,7 @@ module _ (w : World) (law : Lawful w) (id : SessionId) (children : List SessionI
   pub alone_with : AllPeers NotBothUnfinished after
   alone_with =
       let none : (r : Record) (name : List ℕ) → In r ss → names name r ≡ true → names name new ≡ true
-          → is_unfinished r.state ≡ true → ⊥ = λ r name h n m u.
+      → is_unfinished r.state ≡ true → ⊥ = λ r name h n m u.
       let (p, i, e) = package_named name m in
       is.alone p r i h u (ap (λ (a : List ℕ). names a r) e ∙ n) in
       peers_with NotBothUnfinished law.alone (λ r name h n m. (λ u v. none r name h n m u, λ u v. none r name h n m v))
@@ -294,15 +292,18 @@ module _ (w : World) (law : Lawful w) (id : SessionId) (children : List SessionI
     back = λ r i h k. elim (with_any new ss r h) [
       | inl a ↦ absurd (not_undoing rollback i (ap (λ (r : Record). r.kind) (sym a) ∙ k))
       | inr j ↦
-          let (x, found, back) = law.undone.back r i j k in
-          (x, found_other i x found, record {
-            committed = back.committed;
-            begun = back.begun;
-            id = back.id;
-            children = back.children;
-            parts = back.parts ∙ map_alike (part_before ss x) (part_before after x) x.parts (λ p _.
-                part_of_target p (before ss x p.name) (before after x p.name) (sym (before_with x p.name)));
-          })
+          let (x, found, back) = law.undone.back r i j k in (
+            x,
+            found_other i x found,
+            record {
+              committed = back.committed;
+              begun = back.begun;
+              id = back.id;
+              children = back.children;
+              parts = back.parts ∙ map_alike (part_before ss x) (part_before after x) x.parts (λ p _.
+                  part_of_target p (before ss x p.name) (before after x p.name) (sym (before_with x p.name)));
+            },
+          )
     ];
     forth = λ x h c. elim (with_any new ss x h) [
       | inl a ↦ absurd (false≢true (sym (rollback_idle rollback).1 ∙ ap (λ (x : Record). is_committed x.rollback) (sym a)

@@ -1,15 +1,13 @@
 -- Worlds run on after Revert. Callers want `revert_running`.
-use Rattle.std.proofs.Common.{◌≡◌, ◌⊎◌, ℕ, ◌≤◌, Bool, true, false, cond, List, map, Option, Some, None, le_refl, is_some, sym}
-use Rattle.std.proofs.Common.{ap, subst, ◌∙◌, refl, inl, inr}
+use Rattle.std.proofs.Common.{◌≡◌, Bool, true, false, cond, map, Option, Some, None, le_refl, is_some, sym}
+use Rattle.std.proofs.Common.{ap, subst, ◌∙◌, refl, inr}
 use Rattle.std.specs.List.{list_any}
-use Rattle.std.proofs.lemmas.Bool.{false≢true}
 use Rattle.apex_base.specs.declared.moves.Move.TheVariants as step_of
-use Rattle.apex_base.specs.declared.numbers.SessionId.{SessionId}
 use Rattle.apex_base.specs.declared.records.Record.{Record}
 use Rattle.apex_base.specs.declared.records.State.{State}
 use Rattle.apex_base.specs.declared.records.State.TheVariants as state
 use Rattle.apex_base.specs.declared.refusal.Refusal.TheVariants.{NothingToRevert}
-use Rattle.apex_base.specs.Held.{is_unfinished, is_undoable, is_available, is_standing, is_success}
+use Rattle.apex_base.specs.Held.{is_unfinished, is_available}
 use Rattle.apex_base.specs.Members.{In}
 use Rattle.apex_base.specs.Moves.{moved}
 use Rattle.apex_world.specs.Advance.{in_state, reverting, revert}

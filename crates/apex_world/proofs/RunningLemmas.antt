@@ -2,8 +2,7 @@
 -- `with_watches`.
 use Rattle.std.proofs.Common.{◌≡◌, ◌≢◌, ℕ, ◌*◌, ◌≤◌, true, List, length, map, Option, Some, sym, ap, subst, ◌∙◌, refl, arith}
 use Rattle.std.proofs.Common.{mul-le-mul_right, le_trans, is_some}
-use Rattle.std.specs.Prelude.{IfSome, sum}
-use Rattle.std.specs.List.{sum_by, list_any}
+use Rattle.std.specs.Prelude.{IfSome}
 use Rattle.std.specs.Str.{bytes_eq}
 use Rattle.std.specs.FinMap as fin
 use Rattle.std.specs.FinMap.{len-entries}
@@ -16,7 +15,7 @@ use Rattle.apex_base.specs.Held.{kept}
 use Rattle.apex_base.specs.Members.{In, EachPair}
 use Rattle.apex_base.specs.Numbers.{scale_modules, scale_data_weight}
 use Rattle.apex_base.specs.Ranges.{IsMillis}
-use Rattle.apex_base.specs.Tables.{NameMap, Table, or_empty, part_of, value_of}
+use Rattle.apex_base.specs.Tables.{NameMap, or_empty, value_of}
 use Rattle.apex_base.proofs.Finding.{is_there}
 use Rattle.apex_base.proofs.MemberLemmas.{in_map, any_in, in_each}
 use Rattle.apex_base.proofs.RowMaps.{entry_get}
@@ -24,7 +23,7 @@ use Rattle.apex_base.proofs.TableLemmas.{some_value}
 use Rattle.apex_world.specs.declared.calls.Image.{Image}
 use Rattle.apex_world.specs.declared.calls.Observer.{Observer}
 use Rattle.apex_world.specs.declared.world.Submission.{Submission}
-use Rattle.apex_world.specs.Bounds.{HasLittleData, table_len}
+use Rattle.apex_world.specs.Bounds.{table_len}
 use Rattle.apex_world.specs.Data.{data_weight}
 use Rattle.apex_world.specs.Lawful.{Lawful, IsTable, IsRunningImage, HaveModules, part_at_place}
 use Rattle.apex_world.specs.Running.{Running, runs, is_registered}
@@ -101,8 +100,13 @@ module _ (w : World) (run : Running w) where
         (All-from_recursion (λ (e : List ℕ × NameMap ℕ). fin.len e.1 ≤ scale_modules w.scale) (fin.entries t)
         (in_each (λ (e : List ℕ × NameMap ℕ). fin.len e.1 ≤ scale_modules w.scale) (fin.entries t) (λ e h.
         few_run e.1 (λ name end f. run_all e.0 name end (at_part e.0 e.1 (entry_get t e h) name end f))))) in
-        let all : length (fin.entries t) ≤ 8 = omega (arith, first, eight, len-entries t,
-        length-map w.observers (λ (o : Observer). o.name)) in
+        let all : length (fin.entries t) ≤ 8 = omega (
+          arith,
+          first,
+          eight,
+          len-entries t,
+          length-map w.observers (λ (o : Observer). o.name),
+        ) in
         let most = mul-le-mul_right (scale_modules w.scale) all in
         omega (arith, each, most, sum-map (λ (e : List ℕ × NameMap ℕ). fin.len e.1) (fin.entries t))
 

@@ -1,21 +1,19 @@
 -- Worlds run on after Submit. Callers want `submit_running`.
-use Rattle.std.proofs.Common.{◌≡◌, ◌≢◌, ℕ, ◌+◌, ◌≤◌, Bool, true, false, cond, eqb, ◌&&◌, ◌||◌, IsTrue, List, [], ◌∷◌, ◌++◌, length}
-use Rattle.std.proofs.Common.{Option, Some, None, Result, Ok, Err, sym, ap, subst, ◌∙◌, refl, inl, inr, arith, is_some, le_trans, leb}
-use Rattle.std.specs.Prelude.{IfSome, slice_get, option_and_then}
-use Rattle.std.specs.List.{sum_by}
+use Rattle.std.proofs.Common.{◌≡◌, ◌≢◌, ℕ, ◌≤◌, Bool, true, false, cond, IsTrue, List, length}
+use Rattle.std.proofs.Common.{Option, Some, None, Result, Ok, Err, sym, ap, subst, ◌∙◌, refl, inl, inr, arith, is_some, le_trans}
+use Rattle.std.specs.Prelude.{slice_get, option_and_then}
 use Rattle.std.proofs.lemmas.Bool.{false≢true, leb-true}
 use Rattle.apex_base.specs.declared.numbers.SessionId.{SessionId}
 use Rattle.apex_base.specs.declared.records.Part.{Part}
 use Rattle.apex_base.specs.declared.records.Record.{Record}
-use Rattle.apex_base.specs.declared.records.Target.{Target}
 use Rattle.apex_base.specs.declared.records.Target.TheVariants as targets
 use Rattle.apex_base.specs.declared.refusal.Refusal.{Refusal}
 use Rattle.apex_base.specs.Held.{kept}
-use Rattle.apex_base.specs.Members.{In, EachPair}
+use Rattle.apex_base.specs.Members.{In}
 use Rattle.apex_base.specs.Modules.{FileMap, IsModule}
 use Rattle.apex_base.specs.Numbers.{scale_units, scale_file_weight}
 use Rattle.apex_base.specs.Results.{◌>>=◌}
-use Rattle.apex_base.specs.Sessions.{names, session_of, with_session}
+use Rattle.apex_base.specs.Sessions.{session_of, with_session}
 use Rattle.apex_base.specs.Spelling.{IsRecord}
 use Rattle.apex_base.specs.Text.{is_print}
 use Rattle.apex_base.proofs.Finding.{is_there, some_then}
@@ -27,10 +25,7 @@ use Rattle.apex_world.specs.declared.world.Submission.{Submission}
 use Rattle.apex_world.specs.Bounds.{name_count, can_be_undone, can_be_rolled_back, is_ready_rollback}
 use Rattle.apex_world.specs.Lawful.{Lawful, HaveModules, HasParts, HasRollback, IsKept, part_at_place, has_cause}
 use Rattle.apex_world.specs.Limits.{units, weight}
-use Rattle.apex_world.specs.Rows.{undoes}
-use Rattle.apex_world.specs.Running.{Running, runs, is_of_image}
-use Rattle.apex_world.specs.Selection.{submitted_by}
-use Rattle.apex_world.specs.Soundness.{checked}
+use Rattle.apex_world.specs.Running.{Running, is_of_image}
 use Rattle.apex_world.specs.Step.{submit}
 use Rattle.apex_world.specs.Stepped.{replied}
 use Rattle.apex_world.specs.Submit.{parts_from, submissions_from, print_of, new_session, entered, sessions_full, store_full}
@@ -38,11 +33,11 @@ use Rattle.apex_world.specs.Submit.{pass, admitted, within_scale}
 use Rattle.apex_world.specs.World.{World}
 use Rattle.apex_world.proofs.AdmittedLemmas.{IsAdmitted, admitted_is}
 use Rattle.apex_world.proofs.DataRuns.{known_if}
-use Rattle.apex_world.proofs.Found.{of_with, of_other}
+use Rattle.apex_world.proofs.Found.{of_with}
 use Rattle.apex_world.proofs.KeptLess.{IsFresh, Nothing, Before, New}
 use Rattle.apex_world.proofs.NewParts.{AreOthers, placed, submitted_at, modules_differ, pairs_append, still_submitted}
 use Rattle.apex_world.proofs.NewParts.{newly_submitted}
-use Rattle.apex_world.proofs.NewSession.{rollback_idle, kind_ordinary, rollback_new, other_id, all_with, record_new, parts_new}
+use Rattle.apex_world.proofs.NewSession.{rollback_idle, rollback_new, other_id, all_with, record_new, parts_new}
 use Rattle.apex_world.proofs.NewSession.{ids_with, alone_with, available_with, activations_with, undone_with, found_other}
 use Rattle.apex_world.proofs.NewSession.{kept_with, sum_with}
 use Rattle.apex_world.proofs.RunningLemmas.{image_of}

@@ -1,9 +1,8 @@
 -- Worlds run on after Success. Callers want `success_running`.
-use Rattle.std.proofs.Common.{◌≡◌, ◌≢◌, ◌⊎◌, ℕ, ◌≤◌, max, Bool, true, false, cond, eqb, List, map, Option, Some, None, is_some, sym}
+use Rattle.std.proofs.Common.{◌≡◌, ◌≢◌, ℕ, ◌≤◌, max, Bool, true, false, cond, eqb, List, map, Option, Some, None, is_some, sym}
 use Rattle.std.proofs.Common.{ap, subst, ◌∙◌, refl, inl, inr, arith}
-use Rattle.std.specs.List.{list_any}
 use Rattle.std.specs.Str.{bytes_eq}
-use Rattle.std.proofs.lemmas.Bool.{false≢true, cases_eq, eq-eqb, ne_eqb}
+use Rattle.std.proofs.lemmas.Bool.{false≢true, cases_eq, ne_eqb}
 use Rattle.apex_base.specs.declared.moves.Move.TheVariants as step_of
 use Rattle.apex_base.specs.declared.numbers.SessionId.{SessionId}
 use Rattle.apex_base.specs.declared.records.Part.{Part}
@@ -12,18 +11,16 @@ use Rattle.apex_base.specs.declared.records.RollbackState.{RollbackState}
 use Rattle.apex_base.specs.declared.records.RollbackState.TheVariants.{Enabling, Available, Committed, Deleted}
 use Rattle.apex_base.specs.declared.records.State.{State}
 use Rattle.apex_base.specs.declared.records.State.TheVariants as state
-use Rattle.apex_base.specs.Commit.{rolls_back}
-use Rattle.apex_base.specs.Held.{is_unfinished, is_undoable, is_available, is_standing, is_success}
+use Rattle.apex_base.specs.Held.{is_available, is_success}
 use Rattle.apex_base.specs.Members.{In}
 use Rattle.apex_base.specs.Moves.{moved}
 use Rattle.apex_base.specs.Ranges.{IsMillis}
 use Rattle.apex_base.specs.Rollbacks.{is_enabling, is_committed, no_longer}
-use Rattle.apex_base.specs.Sessions.{names, shares, session_of, with_session}
+use Rattle.apex_base.specs.Sessions.{names, shares, session_of}
 use Rattle.apex_base.proofs.MemberLemmas.{any_in, in_any}
 use Rattle.apex_base.proofs.SessionLemmas.{of_found}
 use Rattle.apex_world.specs.Advance.{succeeding, outdated_by, after_success, success_to, success_found, success}
-use Rattle.apex_world.specs.Follows.{IsKeptAs}
-use Rattle.apex_world.specs.Lawful.{AllPeers, NotBothAvailable, HasRollback}
+use Rattle.apex_world.specs.Lawful.{AllPeers, NotBothAvailable}
 use Rattle.apex_world.specs.Running.{Running, is_activated}
 use Rattle.apex_world.specs.World.{World}
 use Rattle.apex_world.proofs.MovesRun.{IsMove, no_move, turn_from, turn_put, rollback_as, moved_kept}

@@ -1,48 +1,41 @@
 -- Sessions that each change by themselves as `Turns` says: their ids, activations, rollback sessions, and what is kept.
 -- Callers want `from`, `peers_from`, `same_place`, `ids_after`, `activations_after`, `was_kept` and `undone_after`.
-use Rattle.std.proofs.Common.{◌≡◌, ◌≢◌, ◌⊎◌, ℕ, ◌+◌, ◌<◌, ◌≤◌, Bool, true, false, cond, ltb, leb, ◌&&◌, ◌||◌, List, [], ◌∷◌, length, map}
-use Rattle.std.proofs.Common.{Option, Some, None, sym, ap, subst, ◌∙◌, refl, inl, inr, arith, is_some, le_trans}
+use Rattle.std.proofs.Common.{◌≡◌, ◌≢◌, ◌⊎◌, ℕ, ◌≤◌, Bool, true, false, cond, ◌&&◌, List, [], ◌∷◌, map}
+use Rattle.std.proofs.Common.{Option, Some, None, sym, ap, subst, ◌∙◌, refl, inl, inr, arith}
 use Rattle.std.specs.Prelude.{nat_lt, slice_get, option_and_then}
 use Rattle.std.specs.List.{list_any, sum_by}
 use Rattle.std.specs.Option.{option_map}
 use Rattle.std.specs.Str.{bytes_eq}
-use Rattle.std.proofs.lemmas.Bool.{false≢true, and_parts, and_from, le-ltb, cases_Bool, and_left, and_right, lt-ltb}
+use Rattle.std.proofs.lemmas.Bool.{false≢true, le-ltb, cases_Bool, and_right}
 use Rattle.std.proofs.lemmas.List.Sums.{sum_by-le-sum_by}
 use Rattle.apex_base.specs.declared.numbers.SessionId.{SessionId}
-use Rattle.apex_base.specs.declared.records.Kind.{Kind}
 use Rattle.apex_base.specs.declared.records.Kind.TheVariants.{RollbackOf}
 use Rattle.apex_base.specs.declared.records.Part.{Part}
 use Rattle.apex_base.specs.declared.records.Record.{Record}
 use Rattle.apex_base.specs.declared.records.Target.{Target}
 use Rattle.apex_base.specs.declared.records.Target.TheVariants as targets
 use Rattle.apex_base.specs.Commit.{rollback_id, part_before, target_version}
-use Rattle.apex_base.specs.Held.{is_unfinished, is_undoable, is_available, is_standing, is_success, candidate, before, kept, is_module, is_target}
+use Rattle.apex_base.specs.Held.{is_standing, is_success, candidate, before, kept, is_module, is_target}
 use Rattle.apex_base.specs.Members.{In, EachPair}
 use Rattle.apex_base.specs.Modules.{module_weight}
-use Rattle.apex_base.specs.Ranges.{IsMillis}
 use Rattle.apex_base.specs.Rollbacks.{is_committed}
 use Rattle.apex_base.specs.Sessions.{has_id, names, session_of, Ascend}
 use Rattle.apex_base.proofs.MemberLemmas.{in_map, in_map_back, any_in, in_any}
 use Rattle.apex_base.proofs.SessionLemmas.{of_found, ascend_map}
 use Rattle.apex_world.specs.declared.world.Submission.{Submission}
-use Rattle.apex_world.specs.Bounds.{name_count, can_be_undone, can_be_rolled_back, is_ready_rollback}
-use Rattle.apex_world.specs.Lawful.{Lawful, HaveIds, HaveActivations, HaveRollbackSessions, HaveModules, ids_of, AllPeers}
-use Rattle.apex_world.specs.Lawful.{NotBothUnfinished, NotBothAvailable, AreActivatedApart, IsRollbackSession, HasActivation}
-use Rattle.apex_world.specs.Lawful.{IsKept, part_at_place, HasParts}
-use Rattle.apex_world.specs.Limits.{kind_units, target_weight, units, weight_of}
+use Rattle.apex_world.specs.Lawful.{Lawful, HaveIds, HaveActivations, HaveRollbackSessions, ids_of, AllPeers}
+use Rattle.apex_world.specs.Lawful.{AreActivatedApart, IsRollbackSession, HasActivation}
+use Rattle.apex_world.specs.Lawful.{part_at_place}
+use Rattle.apex_world.specs.Limits.{target_weight}
 use Rattle.apex_world.specs.Rows.{undoes}
-use Rattle.apex_world.specs.Running.{Running, runs, is_of_image}
-use Rattle.apex_world.specs.Submit.{in_running}
 use Rattle.apex_world.specs.World.{World, boots}
 use Rattle.apex_world.proofs.Found.{of_map}
 use Rattle.apex_world.proofs.KeptLemmas.{AreOrdered, ordered, success_stands, stands_as, names_own, undoable_no_success}
-use Rattle.apex_world.proofs.KeptLess.{Goes, IsFresh, Carries, Comes, Nothing, Before, New, kept_less}
+use Rattle.apex_world.proofs.KeptLess.{Goes, IsFresh, Carries, Nothing, Before, New, kept_less}
 use Rattle.apex_world.proofs.LeadsLemmas.{same_ids}
-use Rattle.apex_world.proofs.NameCounts.{AreApart, names_within}
 use Rattle.apex_world.proofs.OpenedSessions.{one_session}
-use Rattle.apex_world.proofs.RunningLemmas.{image_of}
-use Rattle.apex_world.proofs.SessionMaps.{sum_map_most, latest_map, candidate_same, candidate_none}
-use Rattle.apex_world.proofs.TurnedSessions.{Turns, turn_goes, parts_as, record_as}
+use Rattle.apex_world.proofs.SessionMaps.{latest_map, candidate_same, candidate_none}
+use Rattle.apex_world.proofs.TurnedSessions.{Turns, turn_goes}
 
 -- Modules weigh no more where what is kept was kept
 
@@ -71,10 +64,10 @@ weight_less ts us modules less =
     ]))
 
 pub part_of_target : (p : Part) (t u : Target) → t ≡ u → ◌≡◌ {A = Part} (record {
-      name = p.name;
-      version = target_version t;
-      target = t;
-    }) (record { name = p.name; version = target_version u; target = u })
+  name = p.name;
+  version = target_version t;
+  target = t;
+}) (record { name = p.name; version = target_version u; target = u })
 part_of_target p t u e = ap (λ (t : Target). record { name = p.name; version = target_version t; target = t }) e
 
 pub map_alike : {X Y : Type 0} (f g : X → Y) (xs : List X) → ((x : X) → In x xs → f x ≡ g x) → map f xs ≡ map g xs
@@ -284,18 +277,21 @@ module _ (w : World) (law : Lawful w) (g : Record → Record) (same : (r : Recor
       let t = turn r h in
       let (x, found, back) = law.undone.back r id h (sym t.kept.kind ∙ k) in
       let i = (of_found ss id x found).0 in
-      let u = turn x i in
-      (g x, found_some id x found, record {
-        committed = u.committed ∙ back.committed;
-        begun = t.begun back.begun;
-        id = same r ∙ back.id ∙ ap rollback_id (sym (same x));
-        children = t.kept.children ∙ back.children ∙ ap (map rollback_id) (sym u.kept.children);
-        parts = t.kept.parts ∙ back.parts
-            ∙ map_alike (part_before ss x) (part_before after (g x)) x.parts (λ p j.
-            part_of_target p (before ss x p.name) (before after (g x) p.name)
-            (sym (same_before x p.name i back.committed (names_own x p j))))
-            ∙ ap (map (part_before after (g x))) (sym u.kept.parts);
-      })
+      let u = turn x i in (
+        g x,
+        found_some id x found,
+        record {
+          committed = u.committed ∙ back.committed;
+          begun = t.begun back.begun;
+          id = same r ∙ back.id ∙ ap rollback_id (sym (same x));
+          children = t.kept.children ∙ back.children ∙ ap (map rollback_id) (sym u.kept.children);
+          parts = t.kept.parts ∙ back.parts
+              ∙ map_alike (part_before ss x) (part_before after (g x)) x.parts (λ p j.
+              part_of_target p (before ss x p.name) (before after (g x) p.name)
+              (sym (same_before x p.name i back.committed (names_own x p j))))
+              ∙ ap (map (part_before after (g x))) (sym u.kept.parts);
+        },
+      )
 
   pub undone_after : HaveRollbackSessions after
   undone_after = record {

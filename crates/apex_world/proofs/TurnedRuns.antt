@@ -1,13 +1,12 @@
 -- A world runs on where each session changes by itself as `Turns` says, and no two rollbacks of a name are available.
 -- Callers want `turned_running`.
 use Rattle.std.proofs.Common.{◌≡◌, ℕ, ◌≤◌, Bool, true, false, cond, ◌||◌, List, length, map, Option, sym, ap, ◌∙◌, refl, inl, inr, arith, is_some, le_trans}
-use Rattle.std.specs.List.{sum_by}
 use Rattle.std.proofs.lemmas.Bool.{false≢true, or_left, or_right}
 use Rattle.apex_base.specs.declared.records.Cause.{Cause}
 use Rattle.apex_base.specs.declared.records.Part.{Part}
 use Rattle.apex_base.specs.declared.records.Record.{Record}
 use Rattle.apex_base.specs.declared.records.Target.TheVariants as targets
-use Rattle.apex_base.specs.Held.{is_unfinished, is_available, kept}
+use Rattle.apex_base.specs.Held.{kept}
 use Rattle.apex_base.specs.Members.{In}
 use Rattle.apex_base.specs.Numbers.{scale_modules}
 use Rattle.apex_base.specs.Ranges.{IsMillis}
@@ -15,15 +14,13 @@ use Rattle.apex_base.specs.Sessions.{names}
 use Rattle.apex_base.specs.Spelling.{IsRecord}
 use Rattle.apex_world.specs.declared.calls.Image.{Image}
 use Rattle.apex_world.specs.Bounds.{name_count, can_be_undone, can_be_rolled_back, is_ready_rollback}
-use Rattle.apex_world.specs.Follows.{IsKeptAs}
-use Rattle.apex_world.specs.Lawful.{Lawful, HaveModules, AllPeers, NotBothUnfinished, NotBothAvailable, IsKept, HasParts}
+use Rattle.apex_world.specs.Lawful.{Lawful, HaveModules, AllPeers, NotBothUnfinished, NotBothAvailable, HasParts}
 use Rattle.apex_world.specs.Lawful.{HasRollback, has_cause}
 use Rattle.apex_world.specs.Limits.{kind_units, units_of, weight_of}
-use Rattle.apex_world.specs.Rows.{undoes}
 use Rattle.apex_world.specs.Running.{Running, runs, is_activated, is_of_image}
 use Rattle.apex_world.specs.Submit.{in_running}
 use Rattle.apex_world.specs.World.{World}
-use Rattle.apex_world.proofs.NameCounts.{AreApart, names_within}
+use Rattle.apex_world.proofs.NameCounts.{names_within}
 use Rattle.apex_world.proofs.RunningLemmas.{image_of}
 use Rattle.apex_world.proofs.SessionMaps.{sum_map_most}
 use Rattle.apex_world.proofs.TurnedLemmas.{weight_less, from, peers_from, same_names, ascend, same_place, ids_after}

@@ -1,13 +1,12 @@
 -- What a call may make of a session, and what stays of each. Callers want `Turns`, and `parts_as`, `record_as`.
-use Rattle.std.proofs.Common.{◌≡◌, ◌≢◌, ◌⊎◌, ℕ, ◌+◌, ◌<◌, ◌≤◌, Bool, true, false, cond, ◌&&◌, ◌||◌, List, [], ◌∷◌, length, map}
-use Rattle.std.proofs.Common.{Option, Some, None, sym, ap, subst, ◌∙◌, refl, inl, inr, arith}
+use Rattle.std.proofs.Common.{◌≡◌, ◌≢◌, ◌⊎◌, ◌<◌, ◌≤◌, true, false, ◌||◌, List, [], length}
+use Rattle.std.proofs.Common.{Option, sym, ap, subst, ◌∙◌, inl, inr, arith}
 use Rattle.std.specs.List.{AllByRecursion}
 use Rattle.apex_base.specs.declared.numbers.SessionId.{SessionId}
 use Rattle.apex_base.specs.declared.records.Cause.{Cause}
 use Rattle.apex_base.specs.declared.records.Kind.{Kind}
 use Rattle.apex_base.specs.declared.records.Part.{Part}
 use Rattle.apex_base.specs.declared.records.Record.{Record}
-use Rattle.apex_base.specs.Commit.{target_version}
 use Rattle.apex_base.specs.Held.{is_unfinished, is_undoable, is_standing, is_success, is_available}
 use Rattle.apex_base.specs.Members.{In, EachPair}
 use Rattle.apex_base.specs.Ranges.{IsMillis}
