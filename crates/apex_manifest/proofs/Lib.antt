@@ -1,2 +1,3 @@
+pub mod ManifestRanges
 pub mod Manifests
 pub mod ShortManifests

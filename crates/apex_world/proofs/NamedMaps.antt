@@ -8,12 +8,12 @@ use Rattle.std.specs.Ordering.{nat_cmp, eq_by_cmp}
 use Rattle.std.specs.Cmp.Lexicographic.{slice_cmp, nat_list_cmp_total}
 use Rattle.std.specs.FinMap as fin
 use Rattle.std.specs.FinMap.{is_sorted, get-insert, get-remove, len-entries}
-use Rattle.std.proofs.lemmas.Bool.{and_parts, eqb-true, eqb-false, cases_Bool}
+use Rattle.std.proofs.lemmas.Bool.{and_parts, eqb-false, cases_Bool}
 use Rattle.std.proofs.lemmas.List.{length-map}
 use Rattle.apex_base.specs.Members.{In, EachPair}
 use Rattle.apex_base.specs.Tables.{NameMap, Table, or_empty, part_of, with_part, value_of, with_value, without_value}
 use Rattle.apex_base.proofs.MemberLemmas.{in_map_back, in_each}
-use Rattle.apex_base.proofs.RowMaps.{below_in, sorted_entries, entry_get, in_entries, same_bytes, eq_bytes}
+use Rattle.apex_base.proofs.RowMaps.{below_in, sorted_entries, entry_get, in_entries, same_bytes}
 use Rattle.apex_base.proofs.SumLemmas.{sum_most, length_most}
 use Rattle.apex_base.proofs.TableLemmas.{whole, part_whole}
 
