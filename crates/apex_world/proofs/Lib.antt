@@ -27,7 +27,10 @@ pub mod CommitPeers
 pub mod CommitRollbacks
 pub mod CommitRuns
 pub mod CommitStays
+pub mod CommitTurns
 pub mod CommitUndone
+pub mod CommitWays
+pub mod CommitsAlike
 pub mod DataRuns
 pub mod DataWeightLemmas
 pub mod DecidedIds
@@ -39,6 +42,8 @@ pub mod DecidedTables
 pub mod DecidedTests
 pub mod DecidedWorlds
 pub mod EmptyLemmas
+pub mod EnteredAlike
+pub mod EnteredModules
 pub mod Found
 pub mod HeldLemmas
 pub mod HeldModules
@@ -60,6 +65,7 @@ pub mod OpenedLemmas
 pub mod OpenedModules
 pub mod OpenedSessions
 pub mod OpenedTables
+pub mod OrderedAfter
 pub mod OwnTargets
 pub mod PlainLemmas
 pub mod RefusedLemmas
@@ -74,6 +80,7 @@ pub mod RunningLemmas
 pub mod SessionMaps
 pub mod ShortForms
 pub mod SoundRanges
+pub mod StagedSome
 pub mod StoredAlikeLemmas
 pub mod SubmitRuns
 pub mod SuccessAlike
