@@ -28,7 +28,7 @@ use Rattle.apex_world.specs.StoredAlike.{KeepsPast, AreAlikeInParts}
 use Rattle.apex_world.specs.Submit.{id_taken, submissions_from, rollback_of, print_of, new_session, entered}
 use Rattle.apex_world.specs.Submit.{store_full}
 use Rattle.apex_world.specs.World.{World}
-use Rattle.apex_world.proofs.AlikeAfter.{NoPastNew, target_in, in_target, same_past}
+use Rattle.apex_world.proofs.AlikeAfter.{PastStays, like_self, no_past_new, target_in, in_target, same_past}
 use Rattle.apex_world.proofs.AlikeLemmas.{other}
 use Rattle.apex_world.proofs.KeptLemmas.{AreOrdered, ordered}
 use Rattle.apex_world.proofs.KeptLess.{IsFresh, Carries, Nothing, Before, New, kept_less}
@@ -150,11 +150,12 @@ module _ (w v : World) (a : AreAlikeInParts w v) (law : Lawful w) (law' : Lawful
       (may_happen after s.id s.rollback) k).0
   new_nothing (inr k) = never _ k
 
-  no_past : NoPastNew w.sessions after
-  no_past r name i k n =
+  -- what keeps its past kept it before
+  pub past_stays : PastStays w.sessions after
+  past_stays r i k =
       elim (with_any s w.sessions r i) [
         | inl e ↦ absurd (new_nothing (subst (KeepsPast after) e k))
-        | inr j ↦ (r, j, keeps_before r k, n, refl)
+        | inr j ↦ (r, j, keeps_before r k, like_self r)
       ]
 
   -- the worlds with the new session are alike in parts
@@ -164,7 +165,7 @@ module _ (w v : World) (a : AreAlikeInParts w v) (law : Lawful w) (law' : Lawful
       sessions = refl;
       modules = λ session part k. submitted_more w.modules v.modules added session part (same_files session part k);
       contents = refl;
-      past = same_past w v a after (ordered w law) ordered_after carries no_past;
+      past = same_past w v a after (ordered w law) ordered_after carries (no_past_new w.sessions after past_stays);
       boots = a.stored.boots;
       moments = a.stored.moments;
       watches = refl;

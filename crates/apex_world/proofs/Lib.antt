@@ -18,6 +18,7 @@ pub mod BootUndone
 pub mod BootWatches
 pub mod CallStays
 pub mod CallsRun
+pub mod CallsSettle
 pub mod ChosenLemmas
 pub mod CommitCall
 pub mod CommitKept
@@ -78,6 +79,7 @@ pub mod RollbackIds
 pub mod RowWeightLemmas
 pub mod RunningLemmas
 pub mod SessionMaps
+pub mod SettledRows
 pub mod ShortForms
 pub mod SoundRanges
 pub mod StagedSome
