@@ -365,7 +365,7 @@ among_named ss name x h = let (i, e) = in_filter (λ x. is_eligible ss x && name
 )
 
 -- the rollbacks that a reason asks for
-among_asked : (ss : List Record) (name : List ℕ) (why : Reason) (x : Record) → In x (rollbacks_for why name ss)
+pub among_asked : (ss : List Record) (name : List ℕ) (why : Reason) (x : Record) → In x (rollbacks_for why name ss)
     → In x ss × (is_available x.rollback ≡ true)
 among_asked ss name reason.Unknown x h = among_named ss name x h
 among_asked ss name reason.NativeCrash x h = among_eligible ss x h
@@ -373,7 +373,7 @@ among_asked ss name reason.HealthCheck x h = among_named ss name x h
 among_asked ss name reason.AppCrash x h = among_named ss name x h
 among_asked ss name reason.AppNotResponding x h = among_named ss name x h
 
-asked_ascend : (ss : List Record) (name : List ℕ) (why : Reason) → Ascend ss → Ascend (rollbacks_for why name ss)
+pub asked_ascend : (ss : List Record) (name : List ℕ) (why : Reason) → Ascend ss → Ascend (rollbacks_for why name ss)
 asked_ascend ss name reason.Unknown a = ascend_filter (λ x. is_eligible ss x && names name x) ss a
 asked_ascend ss name reason.NativeCrash a = ascend_filter (is_eligible ss) ss a
 asked_ascend ss name reason.HealthCheck a = ascend_filter (λ x. is_eligible ss x && names name x) ss a

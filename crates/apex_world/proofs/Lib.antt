@@ -7,6 +7,8 @@ pub mod BootTurns
 pub mod CallStays
 pub mod ChosenLemmas
 pub mod CommitStays
+pub mod CommitTurns
+pub mod CommitsAlike
 pub mod DataWeightLemmas
 pub mod EmptyLemmas
 pub mod Found
@@ -17,6 +19,7 @@ pub mod KeptLess
 pub mod Lasting
 pub mod LatestLemmas
 pub mod LeadsLemmas
+pub mod MomentsAlike
 pub mod MovesAlike
 pub mod NewIds
 pub mod OpenedBoots
@@ -25,6 +28,7 @@ pub mod OpenedLemmas
 pub mod OpenedModules
 pub mod OpenedSessions
 pub mod OpenedTables
+pub mod OrderedAfter
 pub mod OwnTargets
 pub mod PlainLemmas
 pub mod RefusedLemmas
@@ -36,6 +40,7 @@ pub mod RowWeightLemmas
 pub mod ShortForms
 pub mod StoredAlikeLemmas
 pub mod SuccessAlike
+pub mod TriggersAlike
 pub mod TurnLemmas
 pub mod WholeBoot
 pub mod WholeCalls

@@ -17,9 +17,11 @@ ghost use Rattle.apex_world.specs.Selection.{Mounts};
 ghost use Rattle.apex_world.specs.Step.{step, success, submit, move_session};
 ghost use Rattle.apex_world.specs.World.{World, empty_world};
 
+mod likeness;
 mod rollback_data;
 mod wholeness;
 
+pub use likeness::{boots_tell_no_alike_worlds_apart, calls_tell_no_alike_worlds_apart};
 pub use rollback_data::rollbacks_bring_back_data;
 pub use wholeness::activated_sessions_are_whole;
 

@@ -16,7 +16,8 @@ pub use calls::{
     Observer, ObserverKind, ObserverList, Reply,
 };
 pub use laws::{
-    activated_sessions_are_whole, empty_world_is_lawful, plain_worlds_do_less,
+    activated_sessions_are_whole, boots_tell_no_alike_worlds_apart,
+    calls_tell_no_alike_worlds_apart, empty_world_is_lawful, plain_worlds_do_less,
     plain_worlds_stay_plain, refusals_change_nothing, rollbacks_bring_back_data, sessions_stay,
 };
 pub use modules::{
