@@ -254,7 +254,7 @@ pass_ok (Some refusal) next x e = absurd (cc)
 
 module _ (w : World) (a : Ascend w.sessions) (id : SessionId) (children : List SessionId) (rollback : Bool)
     (parts : List FileMap) where
-  free : (ps : List Package) → admitted w id children parts ≡ Ok ps → id_taken w.sessions [] (id ∷ children) ≡ None
+  pub free : (ps : List Package) → admitted w id children parts ≡ Ok ps → id_taken w.sessions [] (id ∷ children) ≡ None
   free ps e =
       let ranged = pass_ok (id_range (id ∷ children)) _ ps e in
       (pass_ok (id_taken w.sessions [] (id ∷ children)) _ ps ranged.1).0

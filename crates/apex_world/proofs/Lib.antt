@@ -11,6 +11,7 @@ pub mod CommitTurns
 pub mod CommitsAlike
 pub mod DataWeightLemmas
 pub mod EmptyLemmas
+pub mod EnteredAlike
 pub mod Found
 pub mod HeldLemmas
 pub mod HeldModules
@@ -19,6 +20,7 @@ pub mod KeptLess
 pub mod Lasting
 pub mod LatestLemmas
 pub mod LeadsLemmas
+pub mod LikenessLaws
 pub mod MomentsAlike
 pub mod MovesAlike
 pub mod NewIds
@@ -39,6 +41,7 @@ pub mod RollbackIds
 pub mod RowWeightLemmas
 pub mod ShortForms
 pub mod StoredAlikeLemmas
+pub mod SubmitAlike
 pub mod SuccessAlike
 pub mod TriggersAlike
 pub mod TurnLemmas

@@ -1,0 +1,43 @@
+-- No call tells worlds apart that are alike. Callers want `calls_alike`.
+use Rattle.apex_world.specs.declared.calls.Call.{Call}
+use Rattle.apex_world.specs.declared.calls.Call.TheVariants as calls
+use Rattle.apex_world.specs.Invariance.{CallsKeepRunning}
+use Rattle.apex_world.specs.Lawful.{Lawful}
+use Rattle.apex_world.specs.Likeness.{CallsAreAlike}
+use Rattle.apex_world.specs.Running.{Running}
+use Rattle.apex_world.specs.Step.{step}
+use Rattle.apex_world.specs.StoredAlike.{AreAlikeInParts, AreSteppedAlike}
+use Rattle.apex_world.specs.World.{World}
+use Rattle.apex_world.proofs.AlikeLemmas.{in_parts, from_parts, put_alike, drop_alike, get_alike, state_alike}
+use Rattle.apex_world.proofs.AlikeLemmas.{watch_alike}
+use Rattle.apex_world.proofs.CommitsAlike.{commit_alike}
+use Rattle.apex_world.proofs.MovesAlike.{ready_alike, abort_alike}
+use Rattle.apex_world.proofs.RevertAlike.{revert_alike}
+use Rattle.apex_world.proofs.SubmitAlike.{submit_alike}
+use Rattle.apex_world.proofs.SuccessAlike.{success_alike}
+use Rattle.apex_world.proofs.TriggersAlike.{report_alike}
+
+-- each call, in worlds that are alike in parts
+pub step_alike : (w v : World) → AreAlikeInParts w v → Running w → Running v → (call : Call)
+    → Lawful (step w call).world → AreSteppedAlike (step w call) (step v call)
+step_alike w v a run run' (calls.Submit id children rollback parts) law =
+    submit_alike w v a run.lawful run'.lawful id children rollback parts
+step_alike w v a run run' (calls.Ready id) law = ready_alike w v a run.lawful id law
+step_alike w v a run run' (calls.Abort id) law = abort_alike w v a run.lawful id law
+step_alike w v a run run' (calls.Success time id) law = success_alike w v a run.lawful time id law
+step_alike w v a run run' calls.Revert law = revert_alike w v a run.lawful law
+step_alike w v a run run' (calls.Commit id) law = commit_alike w v a run.lawful id
+step_alike w v a run run' (calls.Put name key value) law = put_alike w v a name key value
+step_alike w v a run run' (calls.Drop name key) law = drop_alike w v a name key
+step_alike w v a run run' (calls.Get name key) law = get_alike w v a name key
+step_alike w v a run run' (calls.StateOf id) law = state_alike w v a id
+step_alike w v a run run' (calls.Watch time observer duration names) law =
+    watch_alike w v a time observer duration names
+step_alike w v a run run' (calls.Report time name why) law = report_alike w v a run run' time name why
+
+pub calls_alike : CallsKeepRunning → CallsAreAlike
+calls_alike keep w v run run' alike call is =
+    let law = (keep w run call is).lawful in
+    let law' = (keep v run' call is).lawful in
+    let a = step_alike w v (in_parts w v run.lawful run'.lawful alike) run run' call law in
+    record { reply = a.reply; world = from_parts (step w call).world (step v call).world law law' a.world }
