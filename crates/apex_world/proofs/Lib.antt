@@ -1,9 +1,13 @@
 pub mod AlikeAfter
 pub mod AlikeLemmas
+pub mod BootDataAlike
 pub mod BootFollows
+pub mod BootOrdered
+pub mod BootPast
 pub mod BootSessions
 pub mod BootStays
 pub mod BootTurns
+pub mod BootTurnsAlike
 pub mod CallStays
 pub mod ChosenLemmas
 pub mod CommitStays
