@@ -95,7 +95,7 @@ module _ (w v : World) (a : AreAlikeInParts w v) where
     clock = clock;
   }
 
-  other_is : other ≡ v
+  pub other_is : other ≡ v
   other_is =
       ap (λ x. of_parts x w.sessions w.contents w.watches w.image w.observers w.active w.clock) a.scale
       ∙ ap (λ x. of_parts v.scale x w.contents w.watches w.image w.observers w.active w.clock) a.stored.sessions

@@ -1,5 +1,6 @@
 pub mod AlikeAfter
 pub mod AlikeLemmas
+pub mod BootAlike
 pub mod BootDataAlike
 pub mod BootFollows
 pub mod BootOrdered

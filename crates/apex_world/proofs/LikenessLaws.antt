@@ -1,15 +1,19 @@
--- No call tells worlds apart that are alike. Callers want `calls_alike`.
+-- No call and no boot tells worlds apart that are alike. Callers want `calls_alike` and `boots_alike`.
+use Rattle.std.proofs.Common.{ℕ, ◌+◌, ◌<◌, ◌^◌, subst, ◌∙◌}
+use Rattle.apex_world.specs.declared.calls.BootOrder.{BootOrder}
 use Rattle.apex_world.specs.declared.calls.Call.{Call}
 use Rattle.apex_world.specs.declared.calls.Call.TheVariants as calls
-use Rattle.apex_world.specs.Invariance.{CallsKeepRunning}
+use Rattle.apex_world.specs.Boot.{boot_world}
+use Rattle.apex_world.specs.Invariance.{IsOrderOf, BootsLeadToRunning, CallsKeepRunning}
 use Rattle.apex_world.specs.Lawful.{Lawful}
-use Rattle.apex_world.specs.Likeness.{CallsAreAlike}
+use Rattle.apex_world.specs.Likeness.{CallsAreAlike, BootsAreAlike}
 use Rattle.apex_world.specs.Running.{Running}
 use Rattle.apex_world.specs.Step.{step}
 use Rattle.apex_world.specs.StoredAlike.{AreAlikeInParts, AreSteppedAlike}
 use Rattle.apex_world.specs.World.{World}
 use Rattle.apex_world.proofs.AlikeLemmas.{in_parts, from_parts, put_alike, drop_alike, get_alike, state_alike}
 use Rattle.apex_world.proofs.AlikeLemmas.{watch_alike}
+use Rattle.apex_world.proofs.BootAlike.{boot_alike}
 use Rattle.apex_world.proofs.CommitsAlike.{commit_alike}
 use Rattle.apex_world.proofs.MovesAlike.{ready_alike, abort_alike}
 use Rattle.apex_world.proofs.RevertAlike.{revert_alike}
@@ -41,3 +45,21 @@ calls_alike keep w v run run' alike call is =
     let law' = (keep v run' call is).lawful in
     let a = step_alike w v (in_parts w v run.lawful run'.lawful alike) run run' call law in
     record { reply = a.reply; world = from_parts (step w call).world (step v call).world law law' a.world }
+
+-- an order for one of two worlds that are alike is one for the other
+order_alike : (w v : World) → AreAlikeInParts w v → (order : BootOrder) → IsOrderOf w order → IsOrderOf v order
+order_alike w v a order is = record {
+  scale = is.scale ∙ a.scale;
+  is_order = is.is_order;
+  print = is.print;
+  time = is.time;
+  number = subst (λ (n : ℕ). n + 1 < 2 ^ 32) a.stored.boots is.number;
+}
+
+pub boots_alike : BootsLeadToRunning → BootsAreAlike
+boots_alike lead w v law law' alike order is mounts =
+    let a = in_parts w v law law' alike in
+    let b = boot_alike w v a law order mounts in
+    let run = lead w law order is mounts in
+    let run' = lead v law' order (order_alike w v a order is) mounts in
+    (b.reply, from_parts (boot_world w order mounts) (boot_world v order mounts) run.lawful run'.lawful b.world)
