@@ -1,5 +1,5 @@
 -- A boot restores the same data in worlds that are alike. Callers want `restored_alike`.
-use Rattle.std.proofs.Common.{◌≡◌, ◌⊎◌, ℕ, ◌≤◌, Bool, true, false, eqb, ◌&&◌, List, [], ◌∷◌, ◌++◌, length, map, fold}
+use Rattle.std.proofs.Common.{◌≡◌, ℕ, true, eqb, ◌&&◌, List, [], ◌∷◌, ◌++◌, length, map, fold}
 use Rattle.std.proofs.Common.{Option, Some, None, sym, ap, subst, ◌∙◌, refl, inl, inr, arith, is_some}
 use Rattle.std.specs.Prelude.{not}
 use Rattle.std.specs.List.{list_any}
@@ -13,7 +13,7 @@ use Rattle.apex_base.specs.declared.records.Record.{Record}
 use Rattle.apex_base.specs.declared.records.RollbackState.{RollbackState}
 use Rattle.apex_base.specs.declared.records.RollbackState.TheVariants.{Enabling, Available, Committed, Deleted}
 use Rattle.apex_base.specs.declared.records.State.TheVariants as state
-use Rattle.apex_base.specs.Commit.{rollback_id, rolls_back, part_before}
+use Rattle.apex_base.specs.Commit.{rolls_back, part_before}
 use Rattle.apex_base.specs.Held.{is_undoable}
 use Rattle.apex_base.specs.Members.{In}
 use Rattle.apex_base.specs.Rollbacks.{is_committed}
@@ -28,14 +28,14 @@ use Rattle.apex_world.specs.Lawful.{Lawful, IsRollbackSession}
 use Rattle.apex_world.specs.Restore.{era_for, with_names, restored_to, restored_by, restored}
 use Rattle.apex_world.specs.Rows.{undoes, is_staged, is_staged_session, may_happen, has_snapshot}
 use Rattle.apex_world.specs.Selection.{Mounts, cause_of}
-use Rattle.apex_world.specs.StoredAlike.{KeepsPast, AreAlikeInParts}
-use Rattle.apex_world.specs.World.{World, Contents, boots, era}
+use Rattle.apex_world.specs.StoredAlike.{AreAlikeInParts}
+use Rattle.apex_world.specs.World.{World, Contents, era}
 use Rattle.apex_world.proofs.BootOrdered.{turn, keeps, names_back}
 use Rattle.apex_world.proofs.BootPast.{past_before}
 use Rattle.apex_world.proofs.BootTurns.{Turns, Rests, Activates, Remains, Fails, Reverts, reverted_undoable}
 use Rattle.apex_world.proofs.BootTurns.{success_states}
 use Rattle.apex_world.proofs.KeptLemmas.{names_own}
-use Rattle.apex_world.proofs.RollbackDataLemmas.{IsRestoring, restoring, era_activated, era_reverted}
+use Rattle.apex_world.proofs.RollbackDataLemmas.{restoring, era_activated, era_reverted}
 
 -- Data of names that both eras have alike
 

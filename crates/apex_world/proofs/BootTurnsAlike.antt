@@ -3,7 +3,6 @@
 use Rattle.std.proofs.Common.{◌≡◌, ℕ, Bool, true, false, List, [], ◌∷◌, fold, Option, Some, None, sym, ap, ◌∙◌, refl}
 use Rattle.std.proofs.Common.{inl, inr}
 use Rattle.apex_base.specs.declared.numbers.SessionId.{SessionId}
-use Rattle.apex_base.specs.declared.records.Cause.{Cause}
 use Rattle.apex_base.specs.declared.records.Part.{Part}
 use Rattle.apex_base.specs.declared.records.Pick.{Pick}
 use Rattle.apex_base.specs.declared.records.Record.{Record}
@@ -60,8 +59,10 @@ module _ (mounts : Mounts) (ms ms' : List Submission) where
       → cause_of mounts ms image ps ≡ cause_of mounts ms' image ps
   cause_alike image [] s = refl
   cause_alike image (p ∷ ps) s =
-      rw (beside_alike p.target (preinstalled image p.name) (s p (inl refl)),
-      cause_alike image ps (λ q h. s q (inr h))) refl
+      rw (
+        beside_alike p.target (preinstalled image p.name) (s p (inl refl)),
+        cause_alike image ps (λ q h. s q (inr h)),
+      ) refl
 
   choice_alike : (t : Target) (m : Package) → IsServed t → choice mounts ms t m ≡ choice mounts ms' t m
   choice_alike targets.Preinstalled m s = refl

@@ -1,11 +1,11 @@
--- What a commit makes of each session, and what sessions keep of the past after it. Callers want `CanCommit`,
--- `carries_commit`, `nothing_commit`, `past_commit`, `ordered_commit` and `can_after`.
-use Rattle.std.proofs.Common.{◌≡◌, ◌≢◌, ◌⊎◌, ℕ, Bool, true, false, cond, eqb, ◌&&◌, List, map, Option, Some, None, sym}
+-- What a commit makes of sessions, what they keep of the past after it, and which commits can follow. Callers want
+-- `CanCommit`, `carries_commit`, `nothing_commit`, `past_commit`, `ordered_commit` and `can_after`.
+use Rattle.std.proofs.Common.{◌≡◌, ◌≢◌, ◌⊎◌, ℕ, true, false, eqb, ◌&&◌, List, map, Option, Some, None, sym}
 use Rattle.std.proofs.Common.{ap, subst, ◌∙◌, refl, inl, inr, arith}
 use Rattle.std.specs.Prelude.{not}
 use Rattle.std.specs.List.{list_any}
 use Rattle.std.specs.Str.{bytes_eq}
-use Rattle.std.proofs.lemmas.Bool.{false≢true, and_parts, and_from, or_right, eqb-true, eq-eqb, ne_eqb}
+use Rattle.std.proofs.lemmas.Bool.{false≢true, and_parts, and_from, or_right, ne_eqb}
 use Rattle.apex_base.specs.declared.numbers.SessionId.{SessionId}
 use Rattle.apex_base.specs.declared.records.Part.{Part}
 use Rattle.apex_base.specs.declared.records.Record.{Record}
@@ -13,128 +13,26 @@ use Rattle.apex_base.specs.declared.records.RollbackState.{RollbackState}
 use Rattle.apex_base.specs.declared.records.RollbackState.TheVariants.{Enabling, Available, Committed, Deleted}
 use Rattle.apex_base.specs.declared.records.State.{State}
 use Rattle.apex_base.specs.declared.records.State.TheVariants as state
-use Rattle.apex_base.specs.Commit.{rollback_id, rolls_back, is_waiting, is_superseded, superseded, part_before}
+use Rattle.apex_base.specs.Commit.{rollback_id, rolls_back, is_waiting, part_before}
 use Rattle.apex_base.specs.Commit.{rollback_session, after_commit, committed}
-use Rattle.apex_base.specs.Held.{is_unfinished, is_undoable, is_standing, is_success, is_available, before, kept}
+use Rattle.apex_base.specs.Held.{is_undoable, is_success, is_available, before, kept}
 use Rattle.apex_base.specs.Members.{In}
 use Rattle.apex_base.specs.Rollbacks.{is_committed, not_enabled}
-use Rattle.apex_base.specs.Sessions.{names, shares, session_of}
+use Rattle.apex_base.specs.Sessions.{session_of}
 use Rattle.apex_base.proofs.MemberLemmas.{in_map, in_map_back}
 use Rattle.apex_base.proofs.SessionLemmas.{with_any, with_others, of_found, of_in}
-use Rattle.apex_world.specs.Rows.{undoes, is_staged, is_staged_session, may_happen, has_snapshot}
+use Rattle.apex_world.specs.Rows.{undoes, is_staged_session, may_happen}
 use Rattle.apex_world.specs.StoredAlike.{KeepsPast}
 use Rattle.apex_world.proofs.AlikeAfter.{NothingNew, NoPastNew}
-use Rattle.apex_world.proofs.KeptLemmas.{AreOrdered, Backs, stands_as, keeps}
-use Rattle.apex_world.proofs.KeptLess.{Goes, IsFresh, Carries}
-use Rattle.apex_world.proofs.MovesAlike.{goes_self}
+use Rattle.apex_world.proofs.KeptLemmas.{AreOrdered, Backs, keeps}
+use Rattle.apex_world.proofs.KeptLess.{IsFresh, Carries}
 use Rattle.apex_world.proofs.OpenedSessions.{one_session}
-use Rattle.apex_world.proofs.OrderedAfter.{IsUnder, under_self, ordered_map, ordered_new}
-use Rattle.apex_world.proofs.SuccessAlike.{IsLike}
+use Rattle.apex_world.proofs.OrderedAfter.{ordered_map, ordered_new}
 use Rattle.apex_world.proofs.WorldRows.{same_id}
-
--- the commit of x leaves a session, or marks x, or fails one that waits
-pub data Ways (x r s : Record) : Type 0 where
-  Marks : r.id.0 ≡ x.id.0 → s ≡ record r { rollback = Some Committed } → Ways x r s
-  GivesWay : is_waiting r.state ≡ true → s ≡ superseded (rollback_id x.id) r → Ways x r s
-  Leaves : s ≡ r → Ways x r s
-
-ways_if : (a b : Bool) (x r : Record) → eqb r.id.0 x.id.0 ≡ a → is_superseded x r ≡ b
-    → Ways x r (cond a (record r { rollback = Some Committed }) (cond b (superseded (rollback_id x.id) r) r))
-ways_if true b x r e f = Marks (eqb-true r.id.0 x.id.0 e) refl
-ways_if false true x r e f = GivesWay (and_parts (is_waiting r.state) (shares x r) f).0 refl
-ways_if false false x r e f = Leaves refl
-
-pub ways : (x r : Record) → Ways x r (after_commit x r)
-ways x r = ways_if (eqb r.id.0 x.id.0) (is_superseded x r) x r refl refl
-
--- What stays of a session
-
-pub ways_like : (x r s : Record) → Ways x r s → IsLike r s
-ways_like x r s (Marks e f) =
-    subst (IsLike r) (sym f) (record { id = refl; kind = refl; parts = refl; activation = refl })
-ways_like x r s (GivesWay e f) =
-    subst (IsLike r) (sym f) (record { id = refl; kind = refl; parts = refl; activation = refl })
-ways_like x r s (Leaves f) =
-    subst (IsLike r) (sym f) (record { id = refl; kind = refl; parts = refl; activation = refl })
-
-ways_under : (x r s : Record) → Ways x r s → IsUnder r s
-ways_under x r s (Marks e f) = subst (IsUnder r) (sym f) (record {
-  id = refl;
-  parts = refl;
-  activation = refl;
-  stands = λ e. e;
-  undoable = λ e. e;
-})
-ways_under x r s (GivesWay e f) = subst (IsUnder r) (sym f) (record {
-  id = refl;
-  parts = refl;
-  activation = refl;
-  stands = λ e. absurd (false≢true e);
-  undoable = λ e. absurd (false≢true e);
-})
-ways_under x r s (Leaves f) = subst (IsUnder r) (sym f) (under_self r)
-
-waits_no_success : (s : State) → is_waiting s ≡ true → is_success s ≡ false
-waits_no_success state.Verified e = refl
-waits_no_success state.Staged e = refl
-waits_no_success state.Activated e = refl
-waits_no_success state.ActivationFailed e = refl
-waits_no_success state.Success e = absurd (cc)
-waits_no_success state.RevertInProgress e = refl
-waits_no_success state.Reverted e = refl
-waits_no_success state.Aborted e = refl
-
-still_available : (o : Option RollbackState) → is_available (not_enabled o) ≡ true → is_available o ≡ true
-still_available None e = absurd (cc)
-still_available (Some Enabling) e = absurd (cc)
-still_available (Some Available) e = refl
-still_available (Some Committed) e = absurd (cc)
-still_available (Some Deleted) e = absurd (cc)
-
-ways_goes : (x r s : Record) → Ways x r s → Goes r s
-ways_goes x r s (Marks e f) = subst (Goes r) (sym f) (record {
-  parts = refl;
-  unfinished = λ e. e;
-  stays = λ e. (e, refl);
-  came = (goes_self r).came;
-  available = λ e. absurd (false≢true e);
-})
-ways_goes x r s (GivesWay e f) = subst (Goes r) (sym f) (record {
-  parts = refl;
-  unfinished = λ e. absurd (false≢true e);
-  stays = λ s. absurd (false≢true (sym (waits_no_success r.state e) ∙ s));
-  came = λ e. absurd (false≢true e);
-  available = λ e. (or_right (is_undoable r.state) (is_available r.rollback) (still_available r.rollback e), refl);
-})
-ways_goes x r s (Leaves f) = subst (Goes r) (sym f) (goes_self r)
-
-undoable_back : (x r s : Record) → Ways x r s → is_undoable s.state ≡ true → is_undoable r.state ≡ true
-undoable_back x r s way u = (ways_under x r s way).undoable u
-
-staged_back : (x r s : Record) → Ways x r s → is_staged s.state ≡ true → is_staged r.state ≡ true
-staged_back x r s (Marks e f) u = ap (λ (s : Record). is_staged s.state) (sym f) ∙ u
-staged_back x r s (GivesWay e f) u = absurd (false≢true (ap (λ (s : Record). is_staged s.state) (sym f) ∙ u))
-staged_back x r s (Leaves f) u = ap (λ (s : Record). is_staged s.state) (sym f) ∙ u
-
-available_may : (ss : List Record) (id : SessionId) (o : Option RollbackState) → is_available o ≡ true
-    → may_happen ss id o ≡ true
-available_may ss id None e = absurd (cc)
-available_may ss id (Some Enabling) e = absurd (cc)
-available_may ss id (Some Available) e = refl
-available_may ss id (Some Committed) e = absurd (cc)
-available_may ss id (Some Deleted) e = absurd (cc)
-
-not_both : (o : Option RollbackState) → is_available o ≡ true → is_committed o ≡ true → ⊥
-not_both None e f = absurd (cc)
-not_both (Some Enabling) e f = absurd (cc)
-not_both (Some Available) e f = absurd (cc)
-not_both (Some Committed) e f = absurd (cc)
-not_both (Some Deleted) e f = absurd (cc)
-
-staged_some : (o : Option Record) → is_staged_session o ≡ true
-    → (z : Record) × (o ≡ Some z) × (is_staged z.state ≡ true)
-staged_some None e = absurd (cc)
-staged_some (Some z) e = (z, refl, e)
+use Rattle.apex_world.proofs.CommitWays.{Ways, Marks, GivesWay, Leaves, ways, ways_like, ways_under, ways_goes}
+use Rattle.apex_world.proofs.CommitWays.{staged_back, available_may}
+use Rattle.apex_world.proofs.NewIds.{not_both}
+use Rattle.apex_world.proofs.StagedSome.{staged_some}
 
 -- a session whose rollback can be committed
 pub record CanCommit (ss : List Record) (x : Record) : Type 0 where
@@ -258,7 +156,7 @@ module _ (ss : List Record) (law : AreOrdered ss) (x : Record) (can : CanCommit 
   keeps_before r s h way (inr k) =
       let l = ways_like x r s way in
       let (kind, u) = and_parts (undoes s.kind) (is_undoable s.state) k in
-      inr (and_from (undoes r.kind) (is_undoable r.state) (ap undoes (sym l.kind) ∙ kind) (undoable_back x r s way u))
+      inr (and_from (undoes r.kind) (is_undoable r.state) (ap undoes (sym l.kind) ∙ kind) ((ways_under x r s way).undoable u))
 
   new_nothing : KeepsPast after new → ⊥
   new_nothing (inl k) = absurd (false≢true k)

@@ -1,10 +1,12 @@
 pub mod AlikeAfter
 pub mod AlikeLemmas
+pub mod BootAges
 pub mod BootAlike
 pub mod BootDataAlike
 pub mod BootFollows
 pub mod BootOrdered
 pub mod BootPast
+pub mod BootRollbacks
 pub mod BootSessions
 pub mod BootStays
 pub mod BootTurns
@@ -13,10 +15,12 @@ pub mod CallStays
 pub mod ChosenLemmas
 pub mod CommitStays
 pub mod CommitTurns
+pub mod CommitWays
 pub mod CommitsAlike
 pub mod DataWeightLemmas
 pub mod EmptyLemmas
 pub mod EnteredAlike
+pub mod EnteredModules
 pub mod Found
 pub mod HeldLemmas
 pub mod HeldModules
@@ -45,6 +49,7 @@ pub mod RollbackDataLemmas
 pub mod RollbackIds
 pub mod RowWeightLemmas
 pub mod ShortForms
+pub mod StagedSome
 pub mod StoredAlikeLemmas
 pub mod SubmitAlike
 pub mod SuccessAlike

@@ -1,9 +1,9 @@
 -- The last five moments decide whether a name fails too often, and whether the device boots too often. Callers want
 -- `failing_alike`, `looping_alike`, `moments_alike` and `sorted_more`.
-use Rattle.std.proofs.Common.{◌≡◌, ◌⊎◌, ℕ, suc, ◌+◌, ◌-◌, ◌<◌, ◌≤◌, Bool, true, false, cond, leb, ◌&&◌, List, [], ◌∷◌}
+use Rattle.std.proofs.Common.{◌≡◌, ℕ, suc, ◌+◌, ◌-◌, ◌<◌, ◌≤◌, Bool, true, false, cond, leb, ◌&&◌, List, [], ◌∷◌}
 use Rattle.std.proofs.Common.{◌++◌, length, drop, sym, ap, subst, ◌∙◌, refl, inl, inr, arith}
 use Rattle.std.specs.List.{list_all, AllByRecursion, filter}
-use Rattle.std.proofs.lemmas.Bool.{leb-true, leb-false, le-leb, lt-leb}
+use Rattle.std.proofs.lemmas.Bool.{leb-true, leb-false, le-leb}
 use Rattle.std.proofs.lemmas.List.{length-append, length-drop, drop-append-le, drop-drop}
 use Rattle.apex_base.specs.Members.{In, EachPair}
 use Rattle.apex_base.specs.Windows.{last_five, is_since, is_failing, is_looping}

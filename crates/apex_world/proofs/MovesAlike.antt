@@ -28,6 +28,7 @@ use Rattle.apex_world.proofs.AlikeLemmas.{other, beside, unchanged, refused_alik
 use Rattle.apex_world.proofs.KeptLemmas.{stands_as, ordered}
 use Rattle.apex_world.proofs.KeptLess.{Goes, Carries}
 use Rattle.apex_world.proofs.OpenedSessions.{one_session}
+use Rattle.apex_world.proofs.StagedSome.{staged_some}
 use Rattle.apex_world.proofs.WorldRows.{same_id}
 
 -- Ready and Abort, by states
@@ -123,11 +124,6 @@ module _ (w : World) (law : Lawful w) (r r' : Record) (h : In r w.sessions) (sam
     (activation : r'.activation ≡ r.activation) (early : IsEarlyMove r.state r'.state) where
   abbrev after : List Record
   after = with_session r' w.sessions
-
-  staged_some : (o : Option Record) → is_staged_session o ≡ true
-      → (z : Record) × (o ≡ Some z) × (is_staged z.state ≡ true)
-  staged_some None e = absurd (cc)
-  staged_some (Some z) e = (z, refl, e)
 
   -- a rollback session that waits for the next boot has waited before
   staged_before : (x : Record) → In x w.sessions → is_committed x.rollback ≡ true

@@ -31,6 +31,7 @@ use Rattle.apex_world.proofs.AlikeLemmas.{other, beside, unchanged, refused_alik
 use Rattle.apex_world.proofs.KeptLemmas.{ordered}
 use Rattle.apex_world.proofs.KeptLess.{Goes, Carries}
 use Rattle.apex_world.proofs.MovesAlike.{goes_self}
+use Rattle.apex_world.proofs.StagedSome.{staged_some}
 use Rattle.apex_world.proofs.WorldRows.{same_id}
 
 -- What a revert leaves of a session
@@ -87,11 +88,6 @@ staged_back r u =
       | inl e ↦ ap (λ (s : Record). is_staged s.state) (sym e) ∙ u
       | inr (s, e) ↦ absurd (false≢true (ap (λ (s : Record). is_staged s.state) (sym e) ∙ u))
     ]
-
-staged_some : (o : Option Record) → is_staged_session o ≡ true
-    → (z : Record) × (o ≡ Some z) × (is_staged z.state ≡ true)
-staged_some None e = absurd (cc)
-staged_some (Some z) e = (z, refl, e)
 
 module _ (w : World) (law : Lawful w) where
   abbrev after : List Record

@@ -1,5 +1,5 @@
 -- Submits in worlds that are alike. Callers want `submit_alike`.
-use Rattle.std.proofs.Common.{◌≡◌, Bool, List, [], ◌∷◌, Option, Result, Ok, Err, subst, refl}
+use Rattle.std.proofs.Common.{◌≡◌, Bool, List, Option, Result, Ok, Err, subst, refl}
 use Rattle.apex_base.specs.declared.numbers.SessionId.{SessionId}
 use Rattle.apex_base.specs.declared.refusal.Refusal.{Refusal}
 use Rattle.apex_base.specs.Modules.{FileMap}

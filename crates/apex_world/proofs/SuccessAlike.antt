@@ -30,6 +30,7 @@ use Rattle.apex_world.proofs.AlikeLemmas.{other, beside, unchanged, with_tables,
 use Rattle.apex_world.proofs.KeptLemmas.{stands_as, ordered}
 use Rattle.apex_world.proofs.KeptLess.{Goes, Carries}
 use Rattle.apex_world.proofs.OpenedSessions.{one_session}
+use Rattle.apex_world.proofs.StagedSome.{staged_some}
 use Rattle.apex_world.proofs.WorldRows.{same_id}
 
 -- What a success leaves of a session
@@ -121,11 +122,6 @@ enabled (Some Enabling) e ss id = refl
 enabled (Some Available) e ss id = absurd (cc)
 enabled (Some Committed) e ss id = absurd (cc)
 enabled (Some Deleted) e ss id = absurd (cc)
-
-staged_some : (o : Option Record) → is_staged_session o ≡ true
-    → (z : Record) × (o ≡ Some z) × (is_staged z.state ≡ true)
-staged_some None e = absurd (cc)
-staged_some (Some z) e = (z, refl, e)
 
 module _ (w : World) (law : Lawful w) (clock : ℕ) (r : Record) (h : In r w.sessions)
     (active : r.state ≡ state.Activated) where

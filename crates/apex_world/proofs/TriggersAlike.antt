@@ -1,6 +1,6 @@
 -- Triggers and reports in worlds that are alike. Callers want `triggered_alike` and `report_alike`.
 use Rattle.std.proofs.Common.{◌≡◌, ℕ, ◌≤◌, Bool, true, false, cond, List, [], ◌∷◌, ◌++◌, filter, max, Option, Some, None}
-use Rattle.std.proofs.Common.{sym, ap, subst, ◌∙◌, refl, inl, inr, arith, Ok}
+use Rattle.std.proofs.Common.{sym, ap, ◌∙◌, refl, arith, Ok}
 use Rattle.std.specs.Ordering.{nat_cmp, eq_by_cmp}
 use Rattle.std.specs.Cmp.Lexicographic.{slice_cmp, nat_list_cmp_total}
 use Rattle.std.specs.FinMap as fin
@@ -19,7 +19,7 @@ use Rattle.apex_world.specs.declared.calls.ObserverKind.TheVariants.{Fixed, Roll
 use Rattle.apex_world.specs.declared.calls.Reply.TheVariants as reply
 use Rattle.apex_world.specs.Data.{unknown_module}
 use Rattle.apex_world.specs.Report.{failures_or, failures_of, rollbacks_for, report_trigger, at_once, counted, reported}
-use Rattle.apex_world.specs.Report.{counted_with, report}
+use Rattle.apex_world.specs.Report.{report}
 use Rattle.apex_world.specs.Running.{Running}
 use Rattle.apex_world.specs.Stepped.{answered}
 use Rattle.apex_world.specs.StoredAlike.{AreAlikeInParts, AreSteppedAlike}
