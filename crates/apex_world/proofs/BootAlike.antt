@@ -1,6 +1,6 @@
 -- No boot tells worlds apart that are alike. Callers want `boot_alike`.
-use Rattle.std.proofs.Common.{◌≡◌, ℕ, Bool, true, false, cond, List, [], ◌∷◌, ◌++◌, length, map, Option, Some, None, sym}
-use Rattle.std.proofs.Common.{ap, subst, ◌∙◌, refl, inl, inr}
+use Rattle.std.proofs.Common.{◌≡◌, ℕ, Bool, true, false, cond, List, [], ◌∷◌, ◌++◌, length, map, Option, Some, None}
+use Rattle.std.proofs.Common.{sym, ap, subst, ◌∙◌, refl, inl, inr}
 use Rattle.std.specs.Option.{option_map}
 use Rattle.std.proofs.lemmas.Bool.{false≢true}
 use Rattle.apex_base.specs.declared.numbers.SessionId.{SessionId}
@@ -145,8 +145,8 @@ module _ (w v : World) (a : AreAlikeInParts w v) (law : Lawful w) (order : BootO
         success = ap (λ (x : Record). is_success x.state) (sym is)
             ∙ success_booted w law order mounts r ((law.rollbacks.each r j).available was);
         available = e;
-        unused = λ q k same. absurd (false≢true (sym (mid_new w law.ids law.undone order mounts x h q (rollback_id x.id) k
-            (inl refl)) ∙ in_has (rollback_id x.id) q q.id (inl refl) same));
+        unused = λ q k same. absurd (false≢true
+            (sym (mid_new w law.ids law.undone order mounts x h q (rollback_id x.id) k (inl refl)) ∙ in_has (rollback_id x.id) q q.id (inl refl) same));
       }
 
   abbrev beside : World

@@ -98,7 +98,8 @@ module _ (w v : World) (a : AreAlikeInParts w v) (law : Lawful w) (order : BootO
       ∙ ap (λ (c : Contents). value_of c name key)
       (sym (era_front v.eras w.contents r.activation (omega (arith, most, same))))
 
-  past_by : (r : Record) (name key : List ℕ) → In r w.sessions → KeepsPast (mid w law order mounts) (f w law order mounts r)
+  past_by : (r : Record) (name key : List ℕ) → In r w.sessions
+      → KeepsPast (mid w law order mounts) (f w law order mounts r)
       → names name (f w law order mounts r) ≡ true
       → IsYoung (length eras) r (f w law order mounts r) ⊎ IsOld r (f w law order mounts r)
       → value_of (era eras (f w law order mounts r).activation) name key
@@ -111,7 +112,8 @@ module _ (w v : World) (a : AreAlikeInParts w v) (law : Lawful w) (order : BootO
       subst (λ (b : ℕ). value_of (era eras b) name key ≡ value_of (era eras' b) name key) (sym old.activation)
       (past_before r name key h (keeps_old w law order mounts r old k) (names_back w law order mounts name r n))
 
-  pub past_booted : (s : Record) (name key : List ℕ) → In s (mid w law order mounts) → KeepsPast (mid w law order mounts) s
+  pub past_booted : (s : Record) (name key : List ℕ) → In s (mid w law order mounts)
+      → KeepsPast (mid w law order mounts) s
       → names name s ≡ true
       → value_of (era eras s.activation) name key ≡ value_of (era eras' s.activation) name key
   past_booted s name key i k n =

@@ -19,8 +19,8 @@ use Rattle.apex_world.specs.declared.calls.Image.{Image}
 use Rattle.apex_world.specs.declared.modules.Package.{Package}
 use Rattle.apex_world.specs.declared.world.Submission.{Submission}
 use Rattle.apex_world.specs.Boot.{rebuilt_in, with_rollback, activated, booted, aged, become, is_same_build}
-use Rattle.apex_world.specs.Selection.{Mounts, preinstalled, submitted_by, submitted_case, case_beside, cause_of, choice}
-use Rattle.apex_world.specs.Selection.{pick_of, with_pick, chosen}
+use Rattle.apex_world.specs.Selection.{Mounts, preinstalled, submitted_by, submitted_case, case_beside, cause_of}
+use Rattle.apex_world.specs.Selection.{choice, pick_of, with_pick, chosen}
 use Rattle.apex_world.proofs.AlikeAfter.{in_target}
 use Rattle.apex_world.proofs.KeptLemmas.{Own, Holds, keeps, keeps_for}
 use Rattle.apex_world.proofs.LatestLemmas.{latest_is}

@@ -156,7 +156,8 @@ module _ (ss : List Record) (law : AreOrdered ss) (x : Record) (can : CanCommit 
   keeps_before r s h way (inr k) =
       let l = ways_like x r s way in
       let (kind, u) = and_parts (undoes s.kind) (is_undoable s.state) k in
-      inr (and_from (undoes r.kind) (is_undoable r.state) (ap undoes (sym l.kind) ∙ kind) ((ways_under x r s way).undoable u))
+      inr (and_from (undoes r.kind) (is_undoable r.state) (ap undoes (sym l.kind) ∙ kind)
+      ((ways_under x r s way).undoable u))
 
   new_nothing : KeepsPast after new → ⊥
   new_nothing (inl k) = absurd (false≢true k)

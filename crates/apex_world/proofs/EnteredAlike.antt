@@ -79,7 +79,8 @@ module _ (w v : World) (a : AreAlikeInParts w v) (law : Lawful w) (law' : Lawful
   }
 
   ordered_after : AreOrdered after
-  ordered_after = ordered_new s w.sessions (ordered w law) (record { activation = refl; stands = refl; undoable = refl })
+  ordered_after =
+      ordered_new s w.sessions (ordered w law) (record { activation = refl; stands = refl; undoable = refl })
 
   none_of : (y : World) → Lawful y → w.sessions ≡ y.sessions → (part : ℕ) → submitted_by y.modules id part ≡ None
   none_of y lawful same part = none_if y lawful id

@@ -1,5 +1,5 @@
 -- Sessions stay in the order that modules are kept by, where each is as it was, or is idle. Callers want
--- `ordered_after`, `ordered_map` and `ordered_new`.
+-- `ordered_after`, `ordered_map`, `ordered_one` and `ordered_new`.
 use Rattle.std.proofs.Common.{◌≡◌, ◌≢◌, ◌⊎◌, ℕ, true, false, List, map, sym, ap, subst, ◌∙◌, refl, inl, inr}
 use Rattle.std.specs.List.{list_any}
 use Rattle.std.specs.Str.{bytes_eq}
@@ -81,6 +81,15 @@ ordered_map f ss law under =
     ordered_after ss (map f ss) law (ascend_map f ss (λ r. (under r).id) law.ascend) (λ s h.
     let (r, i, e) = in_map_back f s ss h in
     inl (r, i, subst (IsUnder r) e (under r)))
+
+-- one session
+pub ordered_one : (r s : Record) (ss : List Record) → AreOrdered ss → In r ss → IsUnder r s
+    → AreOrdered (with_session s ss)
+ordered_one r s ss law h under =
+    ordered_after ss (with_session s ss) law (ascend_with s ss law.ascend) (λ q i. elim (with_any s ss q i) [
+      | inl e ↦ inl (r, h, subst (IsUnder r) (sym e) under)
+      | inr j ↦ inl (q, j, under_self q)
+    ])
 
 -- and an idle one more
 pub ordered_new : (s : Record) (ss : List Record) → AreOrdered ss → IsIdle s → AreOrdered (with_session s ss)

@@ -1,6 +1,6 @@
 -- Triggers and reports in worlds that are alike. Callers want `triggered_alike` and `report_alike`.
-use Rattle.std.proofs.Common.{◌≡◌, ℕ, ◌≤◌, Bool, true, false, cond, List, [], ◌∷◌, ◌++◌, filter, max, Option, Some, None}
-use Rattle.std.proofs.Common.{sym, ap, ◌∙◌, refl, arith, Ok}
+use Rattle.std.proofs.Common.{◌≡◌, ℕ, ◌≤◌, Bool, true, false, cond, List, [], ◌∷◌, ◌++◌, filter, max, Option, Some}
+use Rattle.std.proofs.Common.{None, sym, ap, ◌∙◌, refl, arith, Ok}
 use Rattle.std.specs.Ordering.{nat_cmp, eq_by_cmp}
 use Rattle.std.specs.Cmp.Lexicographic.{slice_cmp, nat_list_cmp_total}
 use Rattle.std.specs.FinMap as fin

@@ -42,13 +42,32 @@ QuietCallsAreAlike =
     (w v : World) → AreAlikeInParts w v → (call : Call) → leaves_sessions call ≡ true
     → AreSteppedAlike (step w call) (step v call)
 
--- no call tells worlds that are alike apart: it has the same reply in both, and leads to worlds that are alike
+-- Calls and boots, in parts
+
+-- each call has the same reply in worlds of which the same is stored and the same runs, and leads to such worlds
+abbrev pub CallsAreAlikeInParts : Type 0
+CallsAreAlikeInParts =
+    (w v : World) → Running w → Running v → AreAlikeInParts w v → (call : Call)
+    → AreSteppedAlike (step w call) (step v call)
+
+-- and so does each boot
+abbrev pub BootsAreAlikeInParts : Type 0
+BootsAreAlikeInParts =
+    (w v : World) → Lawful w → AreAlikeInParts w v → (order : BootOrder) (mounts : Mounts)
+    → (boot_reply w order mounts ≡ boot_reply v order mounts)
+    × AreAlikeInParts (boot_world w order mounts) (boot_world v order mounts)
+
+-- Calls and boots, by rows
+
+-- each call has the same reply in worlds that are alike, and leads to worlds that are alike
 abbrev pub CallsAreAlike : Type 0
 CallsAreAlike =
-    (w v : World) → Running w → Running v → Alike w v → (call : Call) → IsCall call → AlikeAfter (step w call) (step v call)
+    (w v : World) → Running w → Running v → Alike w v → (call : Call) → IsCall call
+    → AlikeAfter (step w call) (step v call)
 
--- nor does a boot
+-- and so does each boot
 abbrev pub BootsAreAlike : Type 0
 BootsAreAlike =
     (w v : World) → Lawful w → Lawful v → Alike w v → (order : BootOrder) → IsOrderOf w order → (mounts : Mounts)
-    → (boot_reply w order mounts ≡ boot_reply v order mounts) × Alike (boot_world w order mounts) (boot_world v order mounts)
+    → (boot_reply w order mounts ≡ boot_reply v order mounts)
+    × Alike (boot_world w order mounts) (boot_world v order mounts)

@@ -21,7 +21,10 @@ mod likeness;
 mod rollback_data;
 mod wholeness;
 
-pub use likeness::{boots_tell_no_alike_worlds_apart, calls_tell_no_alike_worlds_apart};
+pub use likeness::{
+    boots_tell_no_alike_worlds_apart, calls_tell_no_alike_worlds_apart,
+    worlds_of_the_same_parts_stay_so,
+};
 pub use rollback_data::rollbacks_bring_back_data;
 pub use wholeness::activated_sessions_are_whole;
 
