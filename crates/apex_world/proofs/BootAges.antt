@@ -23,6 +23,7 @@ pub record IsOld (r s : Record) : Type 0 where
   pub stands : is_standing s.state ≡ true → is_standing r.state ≡ true
   pub undoable : is_undoable s.state ≡ true → is_undoable r.state ≡ true
 
+-- a boot activates a session, or leaves its activation boot
 pub aged : (cause : Option Cause) (b : ℕ) (r s : Record) → Turns cause b r s → IsYoung b r s ⊎ IsOld r s
 aged cause b r s (Rests e f g) = inr (record {
   activation = g;
@@ -58,6 +59,7 @@ rests_success state.Aborted e f = absurd (cc)
 
 -- What a turn leaves of a session's modules
 
+-- no session begins anew
 pub turn_unfinished : (cause : Option Cause) (b : ℕ) (r s : Record) → Turns cause b r s → is_unfinished s.state ≡ true
     → is_unfinished r.state ≡ true
 turn_unfinished cause b r s (Rests e f g) u = ap is_unfinished (sym f) ∙ u
@@ -66,6 +68,7 @@ turn_unfinished cause b r s (Remains e f g h) u = ap is_unfinished e
 turn_unfinished cause b r s (Fails e f g) u = ap is_unfinished e
 turn_unfinished cause b r s (Reverts e f g) u = undoable_unfinished r.state e
 
+-- a success stays so, with its activation boot
 pub turn_stays : (cause : Option Cause) (b : ℕ) (r s : Record) → Turns cause b r s → is_success r.state ≡ true
     → (is_success s.state ≡ true) × (s.activation ≡ r.activation)
 turn_stays cause b r s (Rests e f g) u = (ap is_success f ∙ u, g)
@@ -74,6 +77,7 @@ turn_stays cause b r s (Remains e f g h) u = absurd (false≢true (sym (ap is_su
 turn_stays cause b r s (Fails e f g) u = absurd (false≢true (sym (ap is_success e) ∙ u))
 turn_stays cause b r s (Reverts e f g) u = absurd (undoable_no_success r.state e u)
 
+-- what stands was unfinished or a success
 pub turn_came : (cause : Option Cause) (b : ℕ) (r s : Record) → Turns cause b r s → is_standing s.state ≡ true
     → (is_unfinished r.state ≡ true) ⊎ (is_success r.state ≡ true)
 turn_came cause b r s (Rests e f g) u = inr (rests_success r.state e (ap is_standing (sym f) ∙ u))

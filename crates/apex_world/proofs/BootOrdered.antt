@@ -43,12 +43,15 @@ module _ (w : World) (law : Lawful w) (order : BootOrder) (mounts : Mounts) wher
   abbrev cause : Record → Option Cause
   cause r = cause_of mounts w.modules order.image.modules r.parts
 
+  -- what the boot makes of a session
   pub turn : (r : Record) → Turns (cause r) number r (f r)
   turn r = turns mounts w.modules order number r
 
+  -- what it leaves of one
   pub keeps : (r : Record) → IsKeptAs r (f r)
   keeps r = become_keeps mounts w.modules order number r
 
+  -- it activates a session, or leaves its activation boot
   pub ages : (r : Record) → IsYoung number r (f r) ⊎ IsOld r (f r)
   ages r = aged (cause r) number r (f r) (turn r)
 
@@ -59,9 +62,11 @@ module _ (w : World) (law : Lawful w) (order : BootOrder) (mounts : Mounts) wher
       let n = length-append w.eras (w.contents ∷ []) in
       omega (arith, most, n)
 
+  -- a session keeps its id
   pub number_same : (r : Record) → (f r).id.0 ≡ r.id.0
   number_same r = ap (λ (id : SessionId). id.0) (keeps r).id
 
+  -- and its names
   pub names_back : (name : List ℕ) (r : Record) → names name (f r) ≡ true → names name r ≡ true
   names_back name r n = ap (λ (ps : List Part). list_any (λ p. bytes_eq p.name name) ps) (sym (keeps r).parts) ∙ n
 
@@ -111,6 +116,7 @@ module _ (w : World) (law : Lawful w) (order : BootOrder) (mounts : Mounts) wher
       let l = (law.activations.each r h).some (stands_activated r.state (x.stands u)) in
       omega (arith, l, z, x.activation)
 
+  -- the order stays
   pub ordered_booted : AreOrdered mid
   ordered_booted = record {
     ascend = ascend_map f w.sessions (λ r. (keeps r).id) law.ids.ascend;
@@ -136,6 +142,7 @@ module _ (w : World) (law : Lawful w) (order : BootOrder) (mounts : Mounts) wher
         );
   }
 
+  -- each session comes from one before
   pub carries_booted : Carries w.sessions mid
   carries_booted = record {
     back = λ s i.
@@ -144,6 +151,7 @@ module _ (w : World) (law : Lawful w) (order : BootOrder) (mounts : Mounts) wher
     forth = λ r i. (f r, in_map f r w.sessions i, goes_booted r i);
   }
 
+  -- and none is new
   pub nothing_booted : NothingNew w.sessions mid
   nothing_booted s p i fresh j =
       let (r, k, e) = in_map_back f s w.sessions i in

@@ -82,6 +82,7 @@ module _ (w v : World) (a : AreAlikeInParts w v) (law : Lawful w) (order : BootO
   abbrev eras' : List Contents
   eras' = v.eras ++ w.contents ∷ []
 
+  -- both worlds have the same number of boots afterwards
   pub number_alike : length eras ≡ length eras'
   number_alike =
       length-append w.eras (w.contents ∷ []) ∙ ap (λ (n : ℕ). n + 1) a.stored.boots
@@ -112,6 +113,7 @@ module _ (w v : World) (a : AreAlikeInParts w v) (law : Lawful w) (order : BootO
       subst (λ (b : ℕ). value_of (era eras b) name key ≡ value_of (era eras' b) name key) (sym old.activation)
       (past_before r name key h (keeps_old w law order mounts r old k) (names_back w law order mounts name r n))
 
+  -- what a session keeps of the past is the same in both worlds afterwards
   pub past_booted : (s : Record) (name key : List ℕ) → In s (mid w law order mounts)
       → KeepsPast (mid w law order mounts) s
       → names name s ≡ true

@@ -67,6 +67,7 @@ module _ (ss : List Record) (law : AreOrdered ss) (x : Record) (can : CanCommit 
   fresh_new : IsFresh ss new
   fresh_new = record { unused = can.unused; idle = refl; unavailable = refl }
 
+  -- each session comes from one before, or is the new one
   pub carries_commit : Carries ss after
   carries_commit = record {
     back = λ s i. elim (from s i) [
@@ -94,6 +95,7 @@ module _ (ss : List Record) (law : AreOrdered ss) (x : Record) (can : CanCommit 
             (Backs (or_right (is_undoable x.state) (is_available x.rollback) can.available) refl)))
       ]
 
+  -- the order stays
   pub ordered_commit : AreOrdered after
   ordered_commit =
       ordered_new new others (ordered_map (after_commit x) ss law (λ r. ways_under x r (after_commit x r) (ways x r)))
@@ -163,6 +165,7 @@ module _ (ss : List Record) (law : AreOrdered ss) (x : Record) (can : CanCommit 
   new_nothing (inl k) = absurd (false≢true k)
   new_nothing (inr k) = absurd (false≢true k)
 
+  -- and nothing is kept of the past that was not
   pub past_commit : NoPastNew ss after
   past_commit s name i k n =
       elim (from s i) [
@@ -191,6 +194,7 @@ module _ (ss : List Record) (law : AreOrdered ss) (x : Record) (can : CanCommit 
   stays_so : (y : Record) → y.id.0 ≢ x.id.0 → is_success y.state ≡ true → after_commit x y ≡ y
   stays_so y d e = rw (ne_eqb y.id.0 x.id.0 d, success_waits y.state e) refl
 
+  -- so it can still be committed
   pub can_after : (y : Record) → CanCommit ss y → y.id.0 ≢ x.id.0 → CanCommit after y
   can_after y other d = record {
     among = with_others new others y (subst (λ (z : Record). In z others) (stays_so y d other.success)

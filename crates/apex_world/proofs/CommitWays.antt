@@ -31,11 +31,13 @@ ways_if true b x r e f = Marks (eqb-true r.id.0 x.id.0 e) refl
 ways_if false true x r e f = GivesWay (and_parts (is_waiting r.state) (shares x r) f).0 refl
 ways_if false false x r e f = Leaves refl
 
+-- each session goes one of these ways
 pub ways : (x r : Record) → Ways x r (after_commit x r)
 ways x r = ways_if (eqb r.id.0 x.id.0) (is_superseded x r) x r refl refl
 
 -- What stays of a session
 
+-- its id, kind, parts and activation boot stay
 pub ways_like : (x r s : Record) → Ways x r s → IsLike r s
 ways_like x r s (Marks e f) =
     subst (IsLike r) (sym f) (record { id = refl; kind = refl; parts = refl; activation = refl })
@@ -44,6 +46,7 @@ ways_like x r s (GivesWay e f) =
 ways_like x r s (Leaves f) =
     subst (IsLike r) (sym f) (record { id = refl; kind = refl; parts = refl; activation = refl })
 
+-- it stands only if it stood
 pub ways_under : (x r s : Record) → Ways x r s → IsUnder r s
 ways_under x r s (Marks e f) = subst (IsUnder r) (sym f) (record {
   id = refl;
@@ -78,6 +81,7 @@ still_available (Some Available) e = refl
 still_available (Some Committed) e = absurd (cc)
 still_available (Some Deleted) e = absurd (cc)
 
+-- no more of its modules is kept
 pub ways_goes : (x r s : Record) → Ways x r s → Goes r s
 ways_goes x r s (Marks e f) = subst (Goes r) (sym f) (record {
   parts = refl;
@@ -95,11 +99,13 @@ ways_goes x r s (GivesWay e f) = subst (Goes r) (sym f) (record {
 })
 ways_goes x r s (Leaves f) = subst (Goes r) (sym f) (goes_self r)
 
+-- it is ready only if it was ready
 pub staged_back : (x r s : Record) → Ways x r s → is_staged s.state ≡ true → is_staged r.state ≡ true
 staged_back x r s (Marks e f) u = ap (λ (s : Record). is_staged s.state) (sym f) ∙ u
 staged_back x r s (GivesWay e f) u = absurd (false≢true (ap (λ (s : Record). is_staged s.state) (sym f) ∙ u))
 staged_back x r s (Leaves f) u = ap (λ (s : Record). is_staged s.state) (sym f) ∙ u
 
+-- an available rollback may happen
 pub available_may : (ss : List Record) (id : SessionId) (o : Option RollbackState) → is_available o ≡ true
     → may_happen ss id o ≡ true
 available_may ss id None e = absurd (cc)

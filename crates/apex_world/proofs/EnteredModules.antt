@@ -52,6 +52,7 @@ weight_more ss ms ms' new e =
     let b = sum_by-append (target_weight (kept ss)) ms' new in
     omega (arith, a, b, e)
 
+-- the session whose module a target is
 abbrev pub target_session : SessionId → Target → SessionId
 target_session id targets.Preinstalled = id
 target_session id (targets.Module session part version) = session

@@ -39,9 +39,11 @@ step_alike w v a run run' (calls.Watch time observer duration names) =
     watch_alike w v a time observer duration names
 step_alike w v a run run' (calls.Report time name why) = report_alike w v a run run' time name why
 
+-- no call tells worlds apart that are alike in parts
 pub calls_in_parts : CallsAreAlikeInParts
 calls_in_parts w v run run' a call = step_alike w v a run run' call
 
+-- nor does a boot
 pub boots_in_parts : BootsAreAlikeInParts
 boots_in_parts w v law a order mounts = let b = boot_alike w v a law order mounts in (b.reply, b.world)
 
@@ -63,6 +65,7 @@ order_alike w v a order is = record {
   number = subst (λ (n : ℕ). n + 1 < 2 ^ 32) a.stored.boots is.number;
 }
 
+-- the same of boots
 pub boots_alike : BootsLeadToRunning → BootsAreAlike
 boots_alike lead w v law law' alike order is mounts =
     let a = in_parts w v law law' alike in

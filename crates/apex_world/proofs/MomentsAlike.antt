@@ -40,6 +40,7 @@ five_of xs t =
     sym (ap last_five front ∙ drop-drop (length (drop k (xs ++ t ∷ [])) - 5) k (xs ++ t ∷ [])
     ∙ ap (λ (n : ℕ). drop n (xs ++ t ∷ [])) count)
 
+-- lists with the same last five have the same last five with one moment more
 pub moments_alike : (xs ys : List ℕ) (t : ℕ) → last_five xs ≡ last_five ys
     → last_five (xs ++ t ∷ []) ≡ last_five (ys ++ t ∷ [])
 moments_alike xs ys t e = five_of xs t ∙ ap (λ (zs : List ℕ). last_five (zs ++ t ∷ [])) e ∙ sym (five_of ys t)

@@ -23,6 +23,7 @@ pub record IsUnder (r s : Record) : Type 0 where
   pub stands : is_standing s.state ≡ true → is_standing r.state ≡ true
   pub undoable : is_undoable s.state ≡ true → is_undoable r.state ≡ true
 
+-- a session is under itself
 pub under_self : (r : Record) → IsUnder r r
 under_self r = record { id = refl; parts = refl; activation = refl; stands = λ e. e; undoable = λ e. e }
 
@@ -67,6 +68,7 @@ module _ (ss ss' : List Record) (law : AreOrdered ss) (ascend : Ascend ss')
   active_after s f z (inr i) = false≢true (sym i.stands ∙ f)
   active_after s f z (inl (r, h, u)) = law.active r h (u.stands f) (sym u.activation ∙ z)
 
+  -- then the order stays
   pub ordered_after : AreOrdered ss'
   ordered_after = record {
     ascend = ascend;

@@ -3,6 +3,7 @@ use Rattle.std.proofs.Common.{◌≡◌, true, Option, Some, None, refl}
 use Rattle.apex_base.specs.declared.records.Record.{Record}
 use Rattle.apex_world.specs.Rows.{is_staged, is_staged_session}
 
+-- it is there
 pub staged_some : (o : Option Record) → is_staged_session o ≡ true
     → (z : Record) × (o ≡ Some z) × (is_staged z.state ≡ true)
 staged_some None e = absurd (cc)

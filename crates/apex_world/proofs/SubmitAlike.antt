@@ -34,6 +34,7 @@ module _ (w v : World) (a : AreAlikeInParts w v) (law : Lawful w) (law' : Lawful
       (two_tests w z x y (sessions_full x) (store_full x) (unchanged w v a)
       (entered_alike w v a law law' id children rollback ps is_free))
 
+  -- a submit
   pub submit_alike : AreSteppedAlike (submit w id children rollback parts) (submit v id children rollback parts)
   submit_alike =
       beside w v a (λ z. submit z id children rollback parts) (admitted_if (admitted w id children parts) refl)

@@ -173,6 +173,7 @@ module _ (w v : World) (a : AreAlikeInParts w v) (run : Running w) (run' : Runni
   report_if None clock name why l = reported_alike clock name why l
   report_if (Some refusal) clock name why l = refused_alike w z refusal (unchanged w v a)
 
+  -- a report
   pub report_alike : (time : ℕ) (name : List ℕ) (why : Reason)
       → AreSteppedAlike (report w time name why) (report v time name why)
   report_alike time name why =
