@@ -145,8 +145,9 @@ module _ (w v : World) (a : AreAlikeInParts w v) (law : Lawful w) (order : BootO
         success = ap (λ (x : Record). is_success x.state) (sym is)
             ∙ success_booted w law order mounts r ((law.rollbacks.each r j).available was);
         available = e;
-        unused = λ q k same. absurd (false≢true
-            (sym (mid_new w law.ids law.undone order mounts x h q (rollback_id x.id) k (inl refl)) ∙ in_has (rollback_id x.id) q q.id (inl refl) same));
+        unused = λ q k same.
+            let free = mid_new w law.ids law.undone order mounts x h q (rollback_id x.id) k (inl refl) in
+            false≢true (sym free ∙ in_has (rollback_id x.id) q q.id (inl refl) same);
       }
 
   abbrev beside : World

@@ -241,8 +241,8 @@ module _ (w : World) (order : BootOrder) (mounts : Mounts) (law : Lawful w) wher
       (activated_works (cause r) number r (f r) e (turn_of r)) p h in
       ap in_image (sym ((bytes_eq-Decides p.name name).0 g)) ∙ ap is_some found
 
-  pub era_activated : (r : Record) (x : SessionId) (s : Record) → r.kind ≡ RollbackOf x → session_of w.sessions x ≡ Some s
-      → r.state ≢ state.Activated → (f r).state ≡ state.Activated
+  pub era_activated : (r : Record) (x : SessionId) (s : Record) → r.kind ≡ RollbackOf x
+      → session_of w.sessions x ≡ Some s → r.state ≢ state.Activated → (f r).state ≡ state.Activated
       → era_for w.sessions r (f r) (f r).kind ≡ Some s.activation
   era_activated r x s kind found d e =
       ap (era_for w.sessions r (f r)) (keeps_kind r ∙ kind)

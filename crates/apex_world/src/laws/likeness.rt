@@ -1,6 +1,7 @@
 //! Calls and boots tell no worlds apart that are alike: `docs/rows.md`, "Alike".
 ghost use Rattle.apex_world.specs.Invariance.{BootsLeadToRunning, CallsKeepRunning};
-ghost use Rattle.apex_world.specs.Likeness.{BootsAreAlike, BootsAreAlikeInParts, CallsAreAlike, CallsAreAlikeInParts};
+ghost use Rattle.apex_world.specs.Likeness.{BootsAreAlike, BootsAreAlikeInParts};
+ghost use Rattle.apex_world.specs.Likeness.{CallsAreAlike, CallsAreAlikeInParts};
 
 /// Each call and each boot has the same reply in worlds of which the same is stored and the same runs, and leads to such
 /// worlds.
