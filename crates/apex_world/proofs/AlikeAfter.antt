@@ -83,7 +83,8 @@ module _ (w v : World) (a : AreAlikeInParts w v) (ss' : List Record) (law : AreO
       ]
 
   pub same_modules : NothingNew w.sessions ss' → (session : SessionId) (part : ℕ)
-      → is_target (kept ss') session part ≡ true → submitted_by w.modules session part ≡ submitted_by v.modules session part
+      → is_target (kept ss') session part ≡ true
+      → submitted_by w.modules session part ≡ submitted_by v.modules session part
   same_modules new session part k =
       let (version, h) = target_in (kept ss') session part k in
       let before =

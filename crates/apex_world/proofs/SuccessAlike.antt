@@ -169,7 +169,6 @@ module _ (w : World) (law : Lawful w) (clock : ℕ) (r : Record) (h : In r w.ses
             inr (q, k, subst (IsOutdated q) e (outdated r q))
       ]
 
-  -- the order stays
   pub ordered_success : AreOrdered after
   ordered_success =
       ordered_after w.sessions after (ordered w law)
@@ -179,7 +178,6 @@ module _ (w : World) (law : Lawful w) (clock : ℕ) (r : Record) (h : In r w.ses
         | inr (q, k, o) ↦ inl (q, k, under_outdated q s o)
       ])
 
-  -- each session comes from one before
   pub carries_all : Carries w.sessions after
   carries_all = record {
     back = λ s i. elim (from s i) [
@@ -290,7 +288,6 @@ module _ (w : World) (law : Lawful w) (clock : ℕ) (r : Record) (h : In r w.ses
 
 -- The call
 
--- a success that isn't one already begins in ACTIVATED
 pub success_from : (s t : State) → moved s step_of.Success ≡ Some t → is_success s ≡ false → s ≡ state.Activated
 success_from state.Verified t e f = absurd (cc)
 success_from state.Staged t e f = absurd (cc)

@@ -20,6 +20,7 @@ ghost use Rattle.apex_world.specs.World.{World, empty_world};
 mod decided;
 mod invariance_of_boots;
 mod invariance_of_calls;
+mod likeness;
 mod rollback_data;
 mod rows_after;
 mod wholeness;
@@ -27,6 +28,10 @@ mod wholeness;
 pub use decided::lawful_worlds_are_decided;
 pub use invariance_of_boots::boots_lead_to_running;
 pub use invariance_of_calls::calls_keep_running;
+pub use likeness::{
+    boots_tell_no_alike_worlds_apart, calls_tell_no_alike_worlds_apart,
+    worlds_of_the_same_parts_stay_so,
+};
 pub use rollback_data::rollbacks_bring_back_data;
 pub use rows_after::calls_settle_rows;
 pub use wholeness::activated_sessions_are_whole;
