@@ -52,6 +52,7 @@ pub mod DecidedWorlds
 pub mod EmptyLemmas
 pub mod EnteredAlike
 pub mod EnteredModules
+pub mod EnteredSessions
 pub mod Found
 pub mod HeldLemmas
 pub mod HeldModules
