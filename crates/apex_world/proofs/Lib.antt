@@ -95,7 +95,9 @@ pub mod SoundRanges
 pub mod StagedSome
 pub mod StoredAlikeLemmas
 pub mod SubmitAlike
+pub mod SubmitRows
 pub mod SubmitRuns
+pub mod SubmitWeight
 pub mod SuccessAlike
 pub mod SuccessRuns
 pub mod TriggerRuns

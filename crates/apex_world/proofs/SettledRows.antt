@@ -1,5 +1,5 @@
 -- The rows of a world after its sessions have changed, where no more is kept than before. Callers want `KeepsNoMore`,
--- `no_more`, `no_more_self`, `no_more_then` and `settled`.
+-- `no_more`, `no_more_self`, `no_more_then`, `snapshot_of`, `restore_of` and `settled`.
 use Rattle.std.proofs.Common.{◌≡◌, ◌⊎◌, ℕ, ◌<◌, ◌^◌, Bool, true, false, cond, eqb, ◌&&◌, List, Option, Some, None, sym}
 use Rattle.std.proofs.Common.{ap, subst, ◌∙◌, refl, inl, inr}
 use Rattle.std.specs.Prelude.{not, option_and_then}
@@ -76,44 +76,19 @@ no_more ss ss' law law' carries new past = record {
   past = past;
 }
 
--- Rows
+-- Rows that tell of the past
 
 two_kinds : (k : Kind) → rolls_back k ≡ true → undoes k ≡ true → ⊥
 two_kinds Plain e f = absurd (cc)
 two_kinds WithRollback e f = absurd (cc)
 two_kinds (RollbackOf x) e f = absurd (cc)
 
-if_so : {X : Type 0} (b : Bool) (o : Option X) → b ≡ true → cond b o None ≡ o
+-- where the test passes
+pub if_so : {X : Type 0} (b : Bool) (o : Option X) → b ≡ true → cond b o None ≡ o
 if_so true o e = refl
 if_so false o e = absurd (cc)
 
-module _ (w : World) (law : Lawful w) (ss' : List Record) (less : KeepsNoMore w.sessions ss') (clock : ℕ)
-    (failures : Failures) where
-  abbrev after : World
-  after = record w { sessions = ss'; clock = clock; failures = failures }
-
-  -- Files
-
-  was_target : (id : SessionId) (part : ℕ) → is_target (kept ss') id part ≡ true
-      → is_target (kept w.sessions) id part ≡ true
-  was_target id part e =
-      let (version, h) = target_in (kept ss') id part e in
-      elim (less.modules (targets.Module id part version) h) [
-        | inl f ↦ absurd (cc)
-        | inr i ↦ in_target (kept w.sessions) id part version i
-      ]
-
-  file_if : (id : SessionId) (part : ℕ) (path : List ℕ) → id.0 < 2 ^ 32 → (b : Bool) → is_target (kept ss') id part ≡ b
-      → cond b (option_and_then (λ (m : FileMap). fin.get m path) (submitted_by w.modules id part)) None
-      ≡ still (rows w) (FileOf id part path) b
-  file_if id part path l true e =
-      sym (world_row w law (FileOf id part path) l
-      ∙ if_so (is_target (kept w.sessions) id part)
-      (option_and_then (λ (m : FileMap). fin.get m path) (submitted_by w.modules id part)) (was_target id part e))
-  file_if id part path l false e = refl
-
-  -- The past
-
+module _ (w : World) (law : Lawful w) (ss' : List Record) (past : PastStays w.sessions ss') where
   found_before : (id : SessionId) (r s : Record) → In r w.sessions → IsLike r s → s.id.0 ≡ id.0
       → session_of w.sessions id ≡ Some r
   found_before id r s h l e =
@@ -147,14 +122,15 @@ module _ (w : World) (law : Lawful w) (ss' : List Record) (less : KeepsNoMore w.
   snapshot_if id name key l s f false e = refl
   snapshot_if id name key l s f true e =
       let (i, sid) = of_found ss' id s f in
-      let (r, j, k, like) = less.past s i (inl e) in
+      let (r, j, k, like) = past s i (inl e) in
       let there = found_before id r s j like sid in
       let before : snapshot_row w id name key ≡ earlier w name key r =
       ap (option_and_then (λ (r : Record). cond (has_snapshot w.sessions r) (earlier w name key r) None)) there
       ∙ if_so (has_snapshot w.sessions r) (earlier w name key r) (kept_snapshot r s like e k) in
       earlier_like r s name key like ∙ sym (world_row w law (SnapshotOf id name key) l ∙ before)
 
-  snapshot_of : (id : SessionId) (name key : List ℕ) → id.0 < 2 ^ 32 → (o : Option Record) → session_of ss' id ≡ o
+  -- what a name had before a session that may be taken back
+  pub snapshot_of : (id : SessionId) (name key : List ℕ) → id.0 < 2 ^ 32 → (o : Option Record) → session_of ss' id ≡ o
       → option_and_then (λ (r : Record). cond (has_snapshot ss' r) (earlier w name key r) None) o
       ≡ still (rows w) (SnapshotOf id name key) (passes (has_snapshot ss') o)
   snapshot_of id name key l None f = refl
@@ -166,18 +142,42 @@ module _ (w : World) (law : Lawful w) (ss' : List Record) (less : KeepsNoMore w.
   restore_if id name key l s f false e = refl
   restore_if id name key l s f true e =
       let (i, sid) = of_found ss' id s f in
-      let (r, j, k, like) = less.past s i (inr e) in
+      let (r, j, k, like) = past s i (inr e) in
       let there = found_before id r s j like sid in
       let before : pre_restore_row w id name key ≡ earlier w name key r =
       ap (option_and_then (λ (r : Record). cond (has_pre_restore r) (earlier w name key r) None)) there
       ∙ if_so (has_pre_restore r) (earlier w name key r) (kept_restore r s like e k) in
       earlier_like r s name key like ∙ sym (world_row w law (PreRestoreOf id name key) l ∙ before)
 
-  restore_of : (id : SessionId) (name key : List ℕ) → id.0 < 2 ^ 32 → (o : Option Record) → session_of ss' id ≡ o
+  -- what a name had before a rollback session that can be undone
+  pub restore_of : (id : SessionId) (name key : List ℕ) → id.0 < 2 ^ 32 → (o : Option Record) → session_of ss' id ≡ o
       → option_and_then (λ (r : Record). cond (has_pre_restore r) (earlier w name key r) None) o
       ≡ still (rows w) (PreRestoreOf id name key) (passes has_pre_restore o)
   restore_of id name key l None f = refl
   restore_of id name key l (Some s) f = restore_if id name key l s f (has_pre_restore s) refl
+
+module _ (w : World) (law : Lawful w) (ss' : List Record) (less : KeepsNoMore w.sessions ss') (clock : ℕ)
+    (failures : Failures) where
+  abbrev after : World
+  after = record w { sessions = ss'; clock = clock; failures = failures }
+
+  was_target : (id : SessionId) (part : ℕ) → is_target (kept ss') id part ≡ true
+      → is_target (kept w.sessions) id part ≡ true
+  was_target id part e =
+      let (version, h) = target_in (kept ss') id part e in
+      elim (less.modules (targets.Module id part version) h) [
+        | inl f ↦ absurd (cc)
+        | inr i ↦ in_target (kept w.sessions) id part version i
+      ]
+
+  file_if : (id : SessionId) (part : ℕ) (path : List ℕ) → id.0 < 2 ^ 32 → (b : Bool) → is_target (kept ss') id part ≡ b
+      → cond b (option_and_then (λ (m : FileMap). fin.get m path) (submitted_by w.modules id part)) None
+      ≡ still (rows w) (FileOf id part path) b
+  file_if id part path l true e =
+      sym (world_row w law (FileOf id part path) l
+      ∙ if_so (is_target (kept w.sessions) id part)
+      (option_and_then (λ (m : FileMap). fin.get m path) (submitted_by w.modules id part)) (was_target id part e))
+  file_if id part path l false e = refl
 
   -- the row at each key is what the sessions settle
   pub settled : (k : Key) → IsKey k → row_at after k ≡ settled_row (rows w) ss' k
@@ -187,6 +187,6 @@ module _ (w : World) (law : Lawful w) (ss' : List Record) (less : KeepsNoMore w.
   settled (BackupOf name) i = refl
   settled (FileOf id part path) i = file_if id part path i (is_target (kept ss') id part) refl
   settled (DataOf name key) i = sym (world_row w law (DataOf name key) i)
-  settled (SnapshotOf id name key) i = snapshot_of id name key i (session_of ss' id) refl
-  settled (PreRestoreOf id name key) i = restore_of id name key i (session_of ss' id) refl
+  settled (SnapshotOf id name key) i = snapshot_of w law ss' less.past id name key i (session_of ss' id) refl
+  settled (PreRestoreOf id name key) i = restore_of w law ss' less.past id name key i (session_of ss' id) refl
   settled (WatchOf observer name) i = sym (world_row w law (WatchOf observer name) i)

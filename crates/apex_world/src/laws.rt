@@ -33,7 +33,7 @@ pub use likeness::{
     worlds_of_the_same_parts_stay_so,
 };
 pub use rollback_data::rollbacks_bring_back_data;
-pub use rows_after::calls_settle_rows;
+pub use rows_after::{calls_settle_rows, submits_put_rows};
 pub use wholeness::activated_sessions_are_whole;
 
 /// A refused call changes nothing, the clock included.
