@@ -63,6 +63,7 @@ pub mod LatestLemmas
 pub mod LeadsLemmas
 pub mod LikenessLaws
 pub mod MomentsAlike
+pub mod MovedRows
 pub mod MovesAlike
 pub mod MovesRun
 pub mod NameCounts
@@ -79,6 +80,7 @@ pub mod OpenedTables
 pub mod OrderedAfter
 pub mod OwnTargets
 pub mod PlainLemmas
+pub mod ReadyRows
 pub mod RefusedLemmas
 pub mod ReportRuns
 pub mod Restored
@@ -104,6 +106,7 @@ pub mod TriggerRuns
 pub mod TriggersAlike
 pub mod TurnLemmas
 pub mod TurnedLemmas
+pub mod TurnedRows
 pub mod TurnedRuns
 pub mod TurnedSessions
 pub mod WatchRuns

@@ -23,6 +23,7 @@ mod invariance_of_calls;
 mod likeness;
 mod rollback_data;
 mod rows_after;
+mod rows_moved;
 mod wholeness;
 
 pub use decided::lawful_worlds_are_decided;
@@ -34,6 +35,7 @@ pub use likeness::{
 };
 pub use rollback_data::rollbacks_bring_back_data;
 pub use rows_after::{calls_settle_rows, submits_put_rows};
+pub use rows_moved::ready_changes_rows;
 pub use wholeness::activated_sessions_are_whole;
 
 /// A refused call changes nothing, the clock included.
