@@ -1,3 +1,4 @@
+pub mod AbortRows
 pub mod AdmittedLemmas
 pub mod AlikeAfter
 pub mod AlikeLemmas
@@ -54,6 +55,7 @@ pub mod EnteredAlike
 pub mod EnteredModules
 pub mod EnteredSessions
 pub mod Found
+pub mod FreedRows
 pub mod HeldLemmas
 pub mod HeldModules
 pub mod KeptLemmas

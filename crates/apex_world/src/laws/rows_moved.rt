@@ -5,3 +5,9 @@ ghost use Rattle.apex_world.specs.RowsMoved.{AbortChangesRows, ReadyChangesRows,
 pub fn ready_changes_rows()
     ensures { ReadyChangesRows }
 {}
+
+/// Abort changes the session's record. It takes away the files of the session's targets that are kept no more, and the
+/// data that was kept for the session which it was to take back.
+pub fn abort_changes_rows()
+    ensures { AbortChangesRows }
+{}
