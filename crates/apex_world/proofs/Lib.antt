@@ -102,7 +102,9 @@ pub mod SubmitAlike
 pub mod SubmitRows
 pub mod SubmitRuns
 pub mod SubmitWeight
+pub mod SucceededSessions
 pub mod SuccessAlike
+pub mod SuccessRows
 pub mod SuccessRuns
 pub mod TriggerRuns
 pub mod TriggersAlike

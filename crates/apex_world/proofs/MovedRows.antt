@@ -51,9 +51,11 @@ use Rattle.apex_world.proofs.TurnedRows.{restore_same, snapshot_gone}
 
 -- A session put in its place
 
+-- in its place stands the new one
 pub put_self : (s : Record) (f : Record → Record) (r : Record) → r.id.0 ≡ s.id.0 → put_for s f r ≡ s
 put_self s f r e = ap (λ b. cond b s (f r)) (eq-eqb r.id.0 s.id.0 e)
 
+-- and in each other place what becomes of the other
 pub put_other : (s : Record) (f : Record → Record) (r : Record) → r.id.0 ≢ s.id.0 → put_for s f r ≡ f r
 put_other s f r d = ap (λ b. cond b s (f r)) (ne_eqb r.id.0 s.id.0 d)
 

@@ -35,7 +35,7 @@ pub use likeness::{
 };
 pub use rollback_data::rollbacks_bring_back_data;
 pub use rows_after::{calls_settle_rows, submits_put_rows};
-pub use rows_moved::{abort_changes_rows, ready_changes_rows};
+pub use rows_moved::{abort_changes_rows, ready_changes_rows, success_changes_rows};
 pub use wholeness::activated_sessions_are_whole;
 
 /// A refused call changes nothing, the clock included.

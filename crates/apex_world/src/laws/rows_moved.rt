@@ -11,3 +11,10 @@ pub fn ready_changes_rows()
 pub fn abort_changes_rows()
     ensures { AbortChangesRows }
 {}
+
+/// Success changes the records of the session and of those whose rollback it outdates. It takes away what the session's
+/// names held before it, the files that it and they could have gone back to and that are kept no more, the data that was
+/// kept for sessions that are outdated, and what was kept to undo the session.
+pub fn success_changes_rows()
+    ensures { SuccessChangesRows }
+{}
