@@ -1,6 +1,6 @@
 -- After a call that changes sessions alone, the rows are those that the sessions settle. Callers want `call_settles`.
 use Rattle.std.proofs.Common.{◌≡◌, ℕ, ◌<◌, Bool, true, false, cond, ◌++◌, max, List, [], ◌∷◌, map, filter, is_some, Option}
-use Rattle.std.proofs.Common.{Some, None, find, Result, Ok, Err, sym, subst, refl, inl, inr, arith}
+use Rattle.std.proofs.Common.{Some, None, find, Result, Ok, Err, refl, inl, inr, arith}
 use Rattle.std.specs.List.{list_any}
 use Rattle.std.specs.FinMap as fin
 use Rattle.apex_base.specs.declared.moves.Move.{Move}

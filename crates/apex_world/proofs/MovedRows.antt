@@ -1,53 +1,38 @@
 -- Sessions after one has moved that no boot has activated: what names hold, what is kept, and what rows say. Callers
 -- want `as_map`, `keeps_on`, `own_other`, `has_else` and `taken`.
-use Rattle.std.proofs.Common.{◌≡◌, ◌≢◌, ◌⊎◌, ℕ, ◌+◌, Bool, true, false, cond, eqb, ◌&&◌, ◌||◌, List, map, Option, Some, None}
-use Rattle.std.proofs.Common.{sym, ap, subst, ◌∙◌, refl, inl, inr, arith}
+use Rattle.std.proofs.Common.{◌≡◌, ◌≢◌, ◌⊎◌, ℕ, Bool, true, false, cond, eqb, ◌&&◌, ◌||◌, List, map, Option, Some}
+use Rattle.std.proofs.Common.{sym, ap, subst, ◌∙◌, refl, inl, inr}
 use Rattle.std.specs.Prelude.{not}
 use Rattle.std.specs.Option.{option_map}
-use Rattle.std.proofs.lemmas.Bool.{false≢true, false_from_ne_true, and_left, and_right, and_from, or_cases, eqb-true, eq-eqb}
+use Rattle.std.proofs.lemmas.Bool.{false≢true, false_from_ne_true, and_left, and_right, or_cases, eqb-true, eq-eqb}
 use Rattle.std.proofs.lemmas.Bool.{ne_eqb, cases_eq}
-use Rattle.apex_base.specs.declared.moves.Move.{Move}
-use Rattle.apex_base.specs.declared.moves.Move.TheVariants as step_of
 use Rattle.apex_base.specs.declared.numbers.SessionId.{SessionId}
-use Rattle.apex_base.specs.declared.records.Kind.{Kind}
-use Rattle.apex_base.specs.declared.records.Kind.TheVariants.{Plain, WithRollback, RollbackOf}
+use Rattle.apex_base.specs.declared.records.Kind.TheVariants.{RollbackOf}
 use Rattle.apex_base.specs.declared.records.Part.{Part}
 use Rattle.apex_base.specs.declared.records.Record.{Record}
 use Rattle.apex_base.specs.declared.records.RollbackState.{RollbackState}
-use Rattle.apex_base.specs.declared.records.RollbackState.TheVariants.{Enabling, Available, Committed, Deleted}
 use Rattle.apex_base.specs.declared.records.State.{State}
-use Rattle.apex_base.specs.declared.records.State.TheVariants as state
 use Rattle.apex_base.specs.declared.records.Target.{Target}
-use Rattle.apex_base.specs.declared.records.Target.TheVariants as targets
-use Rattle.apex_base.specs.Commit.{rollback_id, rolls_back, is_waiting}
-use Rattle.apex_base.specs.Held.{is_unfinished, is_undoable, is_standing, is_success, is_available, before, kept, is_target}
-use Rattle.apex_base.specs.Keys.{Key, Boots, RecordOf, ActiveOf, BackupOf, FileOf, DataOf, SnapshotOf, PreRestoreOf}
-use Rattle.apex_base.specs.Keys.{WatchOf}
+use Rattle.apex_base.specs.Commit.{rollback_id, rolls_back}
+use Rattle.apex_base.specs.Held.{is_unfinished, is_undoable, is_standing, is_success, is_available, before, kept}
 use Rattle.apex_base.specs.Members.{In}
-use Rattle.apex_base.specs.Moves.{moved, rollback_after}
 use Rattle.apex_base.specs.Rollbacks.{is_committed}
 use Rattle.apex_base.specs.Sessions.{session_of, with_session}
 use Rattle.apex_base.specs.Spelling.{record_text}
 use Rattle.apex_base.proofs.MemberLemmas.{in_map, map_same}
 use Rattle.apex_base.proofs.SessionLemmas.{of_found}
-use Rattle.apex_world.specs.Advance.{move_to, move_found, ready, abort}
-use Rattle.apex_world.specs.Lawful.{Lawful, never_activated, is_verified}
-use Rattle.apex_world.specs.Rows.{is_staged, is_staged_session, may_happen, has_snapshot, record_row, file_row}
-use Rattle.apex_world.specs.Rows.{snapshot_row, row_at}
-use Rattle.apex_world.specs.RowsMoved.{ready_row, abort_row, aborted, has_target, takes_back, freed}
+use Rattle.apex_world.specs.Lawful.{Lawful}
+use Rattle.apex_world.specs.Rows.{is_staged, may_happen, has_snapshot, record_row}
 use Rattle.apex_world.specs.World.{World}
-use Rattle.apex_world.proofs.AlikeAfter.{IsLike, like_self, target_in, in_target}
-use Rattle.apex_world.proofs.CallsSettle.{move_no_more}
+use Rattle.apex_world.proofs.AlikeAfter.{IsLike, like_self}
 use Rattle.apex_world.proofs.Found.{of_with, of_other}
-use Rattle.apex_world.proofs.KeptLemmas.{KeptAs, Own, Holds, Backs, kept_back, keeps, undoable_stands, success_stands}
+use Rattle.apex_world.proofs.KeptLemmas.{KeptAs, Own, Holds, Backs, keeps, undoable_stands, success_stands}
 use Rattle.apex_world.proofs.KeptLemmas.{stands_activated}
-use Rattle.apex_world.proofs.MovesAlike.{IsEarlyMove, ready_early, abort_early, abort_available}
+use Rattle.apex_world.proofs.MovesAlike.{IsEarlyMove}
 use Rattle.apex_world.proofs.OpenedSessions.{one_session}
 use Rattle.apex_world.proofs.SessionMaps.{put_for, same_put, with_as_map}
-use Rattle.apex_world.proofs.SettledRows.{KeepsNoMore, was_target}
-use Rattle.apex_world.proofs.TurnedRows.{by_answer, held_same, active_same, before_same, backup_same, has_same}
-use Rattle.apex_world.proofs.TurnedRows.{restores_same, staged_same, may_same, file_row_same, snapshot_same}
-use Rattle.apex_world.proofs.TurnedRows.{restore_same, snapshot_gone}
+use Rattle.apex_world.proofs.TurnedRows.{by_answer, held_same, before_same, has_same}
+use Rattle.apex_world.proofs.TurnedRows.{staged_same, may_same}
 
 -- A session put in its place
 

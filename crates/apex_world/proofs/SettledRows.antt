@@ -4,7 +4,7 @@ use Rattle.std.proofs.Common.{◌≡◌, ◌⊎◌, ℕ, ◌<◌, ◌^◌, Bool,
 use Rattle.std.proofs.Common.{ap, subst, ◌∙◌, refl, inl, inr}
 use Rattle.std.specs.Prelude.{not, option_and_then}
 use Rattle.std.specs.FinMap as fin
-use Rattle.std.proofs.lemmas.Bool.{false≢true, and_parts}
+use Rattle.std.proofs.lemmas.Bool.{and_parts}
 use Rattle.apex_base.specs.declared.numbers.SessionId.{SessionId}
 use Rattle.apex_base.specs.declared.records.Kind.{Kind}
 use Rattle.apex_base.specs.declared.records.Kind.TheVariants.{Plain, WithRollback, RollbackOf}
@@ -14,7 +14,7 @@ use Rattle.apex_base.specs.declared.records.Target.TheVariants as targets
 use Rattle.apex_base.specs.Commit.{rolls_back}
 use Rattle.apex_base.specs.Held.{kept, is_undoable, is_target}
 use Rattle.apex_base.specs.Keys.{Key, Boots, RecordOf, ActiveOf, BackupOf, FileOf, DataOf, SnapshotOf, PreRestoreOf}
-use Rattle.apex_base.specs.Keys.{WatchOf, IsKey, key_text}
+use Rattle.apex_base.specs.Keys.{WatchOf, IsKey}
 use Rattle.apex_base.specs.Members.{In}
 use Rattle.apex_base.specs.Modules.{FileMap}
 use Rattle.apex_base.specs.Sessions.{names, session_of}
@@ -22,7 +22,7 @@ use Rattle.apex_base.specs.Tables.{value_of}
 use Rattle.apex_base.proofs.SessionLemmas.{of_found, of_in}
 use Rattle.apex_world.specs.Lawful.{Lawful}
 use Rattle.apex_world.specs.Rows.{undoes, may_happen, has_snapshot, has_pre_restore, earlier, row_at, rows}
-use Rattle.apex_world.specs.Rows.{file_row, snapshot_row, pre_restore_row}
+use Rattle.apex_world.specs.Rows.{snapshot_row, pre_restore_row}
 use Rattle.apex_world.specs.RowsAfter.{still, passes, settled_row}
 use Rattle.apex_world.specs.Selection.{submitted_by}
 use Rattle.apex_world.specs.StoredAlike.{KeepsPast}

@@ -1,8 +1,7 @@
 -- Sessions after one has succeeded: what names hold and held, and what is kept. Callers want `as_map`, `either`, `like`,
 -- `before_is` and `still_target`.
-use Rattle.std.proofs.Common.{◌≡◌, ◌≢◌, ◌⊎◌, ℕ, ◌≤◌, Bool, true, false, cond, eqb, ◌&&◌, ◌||◌, List, [], ◌∷◌, map, find}
+use Rattle.std.proofs.Common.{◌≡◌, ◌≢◌, ◌⊎◌, ℕ, ◌≤◌, Bool, true, false, cond, ◌&&◌, ◌||◌, List, [], ◌∷◌, map, find}
 use Rattle.std.proofs.Common.{Option, Some, None, sym, ap, subst, ◌∙◌, refl, inl, inr, arith}
-use Rattle.std.specs.Prelude.{nat_lt}
 use Rattle.std.specs.Str.{bytes_eq}
 use Rattle.std.proofs.lemmas.Bool.{false≢true, false_from_ne_true, and_from, or_cases, or_left, or_right, cases_eq}
 use Rattle.apex_base.specs.declared.numbers.SessionId.{SessionId}
@@ -18,7 +17,7 @@ use Rattle.apex_base.specs.Held.{is_unfinished, is_undoable, is_standing, is_suc
 use Rattle.apex_base.specs.Held.{is_target}
 use Rattle.apex_base.specs.Members.{In, EachPair}
 use Rattle.apex_base.specs.Rollbacks.{is_enabling, no_longer}
-use Rattle.apex_base.specs.Sessions.{names, shares, with_session}
+use Rattle.apex_base.specs.Sessions.{names, shares}
 use Rattle.apex_base.proofs.MemberLemmas.{in_map, in_any, each_in}
 use Rattle.apex_world.specs.Advance.{succeeding, outdated_by, after_success}
 use Rattle.apex_world.specs.Lawful.{Lawful}
@@ -28,7 +27,6 @@ use Rattle.apex_world.specs.World.{World}
 use Rattle.apex_world.proofs.AlikeAfter.{IsLike, target_in, in_target}
 use Rattle.apex_world.proofs.KeptLemmas.{Own, Holds, Backs, kept_back, keeps, names_own, eq_name, ordered, same_latest}
 use Rattle.apex_world.proofs.KeptLemmas.{unfinished_as}
-use Rattle.apex_world.proofs.LatestLemmas.{part_for}
 use Rattle.apex_world.proofs.MovedRows.{put_self, put_other}
 use Rattle.apex_world.proofs.OpenedSessions.{one_session}
 use Rattle.apex_world.proofs.SessionMaps.{put_for, same_put, with_as_map}

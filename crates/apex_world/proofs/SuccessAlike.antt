@@ -2,8 +2,6 @@
 use Rattle.std.proofs.Common.{◌≡◌, ◌⊎◌, ℕ, Bool, true, false, cond, eqb, ◌&&◌, List, map, Option, Some, None, sym, ap}
 use Rattle.std.proofs.Common.{subst, ◌∙◌, refl, inl, inr}
 use Rattle.std.specs.Prelude.{not, max}
-use Rattle.std.specs.List.{list_any}
-use Rattle.std.specs.Str.{bytes_eq}
 use Rattle.std.proofs.lemmas.Bool.{false≢true, and_parts, and_from, or_left, or_right, cases_eq}
 use Rattle.apex_base.specs.declared.moves.Move.TheVariants as step_of
 use Rattle.apex_base.specs.declared.numbers.SessionId.{SessionId}
@@ -17,7 +15,7 @@ use Rattle.apex_base.specs.Held.{is_unfinished, is_undoable, is_standing, is_suc
 use Rattle.apex_base.specs.Members.{In}
 use Rattle.apex_base.specs.Moves.{moved}
 use Rattle.apex_base.specs.Rollbacks.{is_enabling, no_longer}
-use Rattle.apex_base.specs.Sessions.{names, shares, session_of}
+use Rattle.apex_base.specs.Sessions.{shares, session_of}
 use Rattle.apex_base.proofs.MemberLemmas.{in_map, in_map_back}
 use Rattle.apex_base.proofs.SessionLemmas.{with_any, with_self, with_others, of_found, of_in, ascend_with, ascend_map}
 use Rattle.apex_world.specs.Advance.{succeeding, outdated_by, after_success, success_to, success_found, success}

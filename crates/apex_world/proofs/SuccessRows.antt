@@ -1,9 +1,9 @@
 -- The rows after Success. Callers want `success_rows`.
-use Rattle.std.proofs.Common.{◌≡◌, ◌≢◌, ◌⊎◌, ℕ, Bool, true, false, cond, eqb, ◌&&◌, List, [], ◌∷◌, map, find, max, Option}
+use Rattle.std.proofs.Common.{◌≡◌, ℕ, Bool, true, false, cond, eqb, ◌&&◌, List, [], map, find, max, Option}
 use Rattle.std.proofs.Common.{Some, None, sym, ap, subst, ◌∙◌, refl, inl, inr}
 use Rattle.std.specs.Prelude.{not}
 use Rattle.std.specs.Option.{option_map}
-use Rattle.std.proofs.lemmas.Bool.{false≢true, false_from_ne_true, and_parts, and_left, and_right, eqb-true, eq-eqb}
+use Rattle.std.proofs.lemmas.Bool.{false≢true, and_parts, and_right, eqb-true, eq-eqb}
 use Rattle.apex_base.specs.declared.moves.Move.TheVariants as step_of
 use Rattle.apex_base.specs.declared.numbers.SessionId.{SessionId}
 use Rattle.apex_base.specs.declared.records.Record.{Record}
@@ -12,7 +12,7 @@ use Rattle.apex_base.specs.declared.records.RollbackState.TheVariants.{Enabling,
 use Rattle.apex_base.specs.declared.records.State.{State}
 use Rattle.apex_base.specs.declared.records.State.TheVariants as state
 use Rattle.apex_base.specs.Commit.{rollback_id, rolls_back}
-use Rattle.apex_base.specs.Held.{is_undoable, is_success, is_available, before, kept}
+use Rattle.apex_base.specs.Held.{is_undoable, is_success, is_available, before}
 use Rattle.apex_base.specs.Keys.{Key, Boots, RecordOf, ActiveOf, BackupOf, FileOf, DataOf, SnapshotOf, PreRestoreOf}
 use Rattle.apex_base.specs.Keys.{WatchOf}
 use Rattle.apex_base.specs.Members.{In}
@@ -26,7 +26,7 @@ use Rattle.apex_base.proofs.MemberLemmas.{in_map_back}
 use Rattle.apex_base.proofs.SessionLemmas.{of_found, of_in}
 use Rattle.apex_world.specs.Advance.{succeeding, outdated_by, after_success, success_to, success_found, success}
 use Rattle.apex_world.specs.Lawful.{Lawful}
-use Rattle.apex_world.specs.Rows.{undoes, may_happen, has_snapshot, has_pre_restore, record_row, backup_row, file_row}
+use Rattle.apex_world.specs.Rows.{undoes, may_happen, has_snapshot, has_pre_restore, record_row, file_row}
 use Rattle.apex_world.specs.Rows.{snapshot_row, pre_restore_row, row_at}
 use Rattle.apex_world.specs.RowsAfter.{passes}
 use Rattle.apex_world.specs.RowsMoved.{freed, outdates, gives_up_file, outdated_text, success_row}
@@ -36,7 +36,6 @@ use Rattle.apex_world.proofs.AlikeAfter.{IsLike, names_same}
 use Rattle.apex_world.proofs.CallsSettle.{success_no_more}
 use Rattle.apex_world.proofs.FreedRows.{freed_row}
 use Rattle.apex_world.proofs.KeptLemmas.{unfinished_as}
-use Rattle.apex_world.proofs.OpenedSessions.{one_session}
 use Rattle.apex_world.proofs.SessionMaps.{put_for}
 use Rattle.apex_world.proofs.SettledRows.{KeepsNoMore, was_target}
 use Rattle.apex_world.proofs.SucceededSessions.{not_outdated, as_map, ids, either, like, now_is, other_state, standing}

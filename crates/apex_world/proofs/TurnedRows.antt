@@ -1,6 +1,6 @@
 -- What rows say after sessions that each changed by themselves, and kept their ids, kinds, parts and activation boots.
 -- Callers want `active_same`, `before_same`, `backup_same`, `file_row_same`, `snapshot_same` and `restore_same`.
-use Rattle.std.proofs.Common.{◌≡◌, ◌≢◌, ◌⊎◌, ℕ, Bool, true, false, cond, eqb, ◌&&◌, List, [], ◌∷◌, map, find, Option, Some}
+use Rattle.std.proofs.Common.{◌≡◌, ◌⊎◌, ℕ, Bool, true, false, cond, eqb, ◌&&◌, List, [], ◌∷◌, map, find, Option, Some}
 use Rattle.std.proofs.Common.{None, sym, ap, ◌∙◌, refl, inl, inr}
 use Rattle.std.specs.Prelude.{not, nat_lt, option_and_then}
 use Rattle.std.specs.List.{list_any}
