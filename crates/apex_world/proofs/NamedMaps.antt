@@ -67,7 +67,7 @@ module _ {X : Type 0} where
   with_if true t a q m e = get-remove nat_list_cmp_total t a q
   with_if false t a q m e = get-insert nat_list_cmp_total t a m q
 
-  get_with : (t : Table X) (a q : List ℕ) (m : NameMap X)
+  pub get_with : (t : Table X) (a q : List ℕ) (m : NameMap X)
       → fin.get (with_part t a m) q ≡ cond (eq_by_cmp (slice_cmp nat_cmp) q a) (whole m) (fin.get t q)
   get_with t a q m = with_if (eqb (fin.len m) 0) t a q m refl
 

@@ -22,6 +22,7 @@ pub mod RollbackData
 pub mod RowLaws
 pub mod Rows
 pub mod RowsAfter
+pub mod RowsBooted
 pub mod Running
 pub mod Segments
 pub mod Selection

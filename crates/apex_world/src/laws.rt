@@ -21,12 +21,14 @@ mod decided;
 mod invariance_of_boots;
 mod invariance_of_calls;
 mod rollback_data;
+mod rows_booted;
 mod wholeness;
 
 pub use decided::lawful_worlds_are_decided;
 pub use invariance_of_boots::boots_lead_to_running;
 pub use invariance_of_calls::calls_keep_running;
 pub use rollback_data::rollbacks_bring_back_data;
+pub use rows_booted::boots_settle_rows;
 pub use wholeness::activated_sessions_are_whole;
 
 /// A refused call changes nothing, the clock included.
