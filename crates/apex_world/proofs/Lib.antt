@@ -47,6 +47,7 @@ pub mod EmptyLemmas
 pub mod Found
 pub mod HeldLemmas
 pub mod HeldModules
+pub mod KeptCases
 pub mod KeptLemmas
 pub mod KeptLess
 pub mod KeptRows
@@ -68,6 +69,8 @@ pub mod OpenedSessions
 pub mod OpenedTables
 pub mod OwnTargets
 pub mod PlainLemmas
+pub mod QuietBoots
+pub mod RecentMoments
 pub mod RefusedLemmas
 pub mod ReportRuns
 pub mod Restored

@@ -1,6 +1,7 @@
 pub mod Advance
 pub mod Alike
 pub mod Boot
+pub mod BootByRows
 pub mod Bounds
 pub mod Calls
 pub mod Data

@@ -17,6 +17,7 @@ ghost use Rattle.apex_world.specs.Selection.{Mounts};
 ghost use Rattle.apex_world.specs.Step.{step, success, submit, move_session};
 ghost use Rattle.apex_world.specs.World.{World, empty_world};
 
+mod boot_by_rows;
 mod decided;
 mod invariance_of_boots;
 mod invariance_of_calls;
@@ -24,6 +25,7 @@ mod rollback_data;
 mod rows_booted;
 mod wholeness;
 
+pub use boot_by_rows::boots_go_by_rows;
 pub use decided::lawful_worlds_are_decided;
 pub use invariance_of_boots::boots_lead_to_running;
 pub use invariance_of_calls::calls_keep_running;
