@@ -57,7 +57,8 @@ module _ (w v : World) (a : AreAlikeInParts w v) (ss' : List Record) (law : AreO
         | inr k ↦ subst (λ (t : Target). In t (kept w.sessions)) (sym e) k
       ]
 
-  same_modules : NothingNew w.sessions ss' → (session : SessionId) (part : ℕ) → is_target (kept ss') session part ≡ true
+  pub same_modules : NothingNew w.sessions ss' → (session : SessionId) (part : ℕ)
+      → is_target (kept ss') session part ≡ true
       → submitted_by w.modules session part ≡ submitted_by v.modules session part
   same_modules new session part k =
       let (version, h) = target_in (kept ss') session part k in
@@ -65,7 +66,7 @@ module _ (w v : World) (a : AreAlikeInParts w v) (ss' : List Record) (law : AreO
       was_kept new session part version (kept_less w.sessions ss' law law' f (targets.Module session part version) h) in
       a.stored.modules session part (in_target (kept w.sessions) session part version before)
 
-  same_past : NoPastNew w.sessions ss' → (s : Record) (name key : List ℕ) → In s ss' → KeepsPast ss' s
+  pub same_past : NoPastNew w.sessions ss' → (s : Record) (name key : List ℕ) → In s ss' → KeepsPast ss' s
       → names name s ≡ true
       → value_of (era w.eras s.activation) name key ≡ value_of (era v.eras s.activation) name key
   same_past past s name key h k n =

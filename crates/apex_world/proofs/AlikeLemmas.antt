@@ -63,7 +63,7 @@ one_test : (w v after after' : World) (a : Option Refusal) → AreAlikeInParts w
 one_test w v after after' None same then = record { reply = refl; world = then }
 one_test w v after after' (Some e) same then = refused_alike w v e same
 
-two_tests : (w v after after' : World) (a b : Option Refusal) → AreAlikeInParts w v → AreAlikeInParts after after'
+pub two_tests : (w v after after' : World) (a b : Option Refusal) → AreAlikeInParts w v → AreAlikeInParts after after'
     → AreSteppedAlike (replied w (pass a >>= λ known. pass b >>= λ light. Ok after))
     (replied v (pass a >>= λ known. pass b >>= λ light. Ok after'))
 two_tests w v after after' None b same then = one_test w v after after' b same then
@@ -95,7 +95,7 @@ module _ (w v : World) (a : AreAlikeInParts w v) where
     clock = clock;
   }
 
-  other_is : other ≡ v
+  pub other_is : other ≡ v
   other_is =
       ap (λ x. of_parts x w.sessions w.contents w.watches w.image w.observers w.active w.clock) a.scale
       ∙ ap (λ x. of_parts v.scale x w.contents w.watches w.image w.observers w.active w.clock) a.stored.sessions

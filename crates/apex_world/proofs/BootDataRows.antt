@@ -1,30 +1,25 @@
 -- What the rows of data are after a boot, by the rows before it. Callers want `data_settled`.
-use Rattle.std.proofs.Common.{◌≡◌, ◌≢◌, ◌⊎◌, ℕ, ◌<◌, ◌^◌, Bool, true, false, cond, eqb, ◌&&◌, List, [], ◌∷◌, ◌++◌, length}
+use Rattle.std.proofs.Common.{◌≡◌, ◌⊎◌, ℕ, Bool, true, false, cond, List, [], ◌∷◌, ◌++◌}
 use Rattle.std.proofs.Common.{Option, Some, None, sym, ap, subst, ◌∙◌, refl, inl, inr, is_some, arith}
-use Rattle.std.specs.Prelude.{not, option_and_then}
+use Rattle.std.specs.Prelude.{option_and_then}
 use Rattle.std.specs.List.{list_any}
 use Rattle.std.specs.Ordering.{nat_cmp}
 use Rattle.std.specs.Cmp.Lexicographic.{slice_cmp}
 use Rattle.std.specs.Str.{bytes_eq}
 use Rattle.std.specs.FinMap as fin
 use Rattle.std.specs.FinMap.{get-empty}
-use Rattle.std.proofs.lemmas.Bool.{and_from, false≢true, ne_eqb}
+use Rattle.std.proofs.lemmas.Bool.{and_from, false≢true}
 use Rattle.apex_base.specs.declared.numbers.SessionId.{SessionId}
-use Rattle.apex_base.specs.declared.records.Cause.{Cause}
 use Rattle.apex_base.specs.declared.records.Kind.{Kind}
 use Rattle.apex_base.specs.declared.records.Kind.TheVariants.{Plain, WithRollback, RollbackOf}
 use Rattle.apex_base.specs.declared.records.Part.{Part}
 use Rattle.apex_base.specs.declared.records.Record.{Record}
-use Rattle.apex_base.specs.declared.records.RollbackState.{RollbackState}
-use Rattle.apex_base.specs.declared.records.RollbackState.TheVariants.{Enabling, Available, Committed, Deleted}
 use Rattle.apex_base.specs.declared.records.State.TheVariants as state
-use Rattle.apex_base.specs.Commit.{rollback_id, rolls_back}
 use Rattle.apex_base.specs.Held.{is_undoable}
 use Rattle.apex_base.specs.Keys.{Key, DataOf, SnapshotOf, PreRestoreOf, key_text}
 use Rattle.apex_base.specs.Members.{In}
-use Rattle.apex_base.specs.Rollbacks.{is_committed}
 use Rattle.apex_base.specs.Sessions.{names, session_of}
-use Rattle.apex_base.specs.Tables.{NameMap, part_of, value_of}
+use Rattle.apex_base.specs.Tables.{NameMap, value_of}
 use Rattle.apex_base.proofs.Finding.{some_if}
 use Rattle.apex_base.proofs.SessionLemmas.{of_found, of_in}
 use Rattle.apex_world.specs.declared.calls.BootOrder.{BootOrder}
@@ -32,17 +27,17 @@ use Rattle.apex_world.specs.Boot.{boot_world}
 use Rattle.apex_world.specs.Lawful.{Lawful, IsRollbackSession}
 use Rattle.apex_world.specs.Restore.{became}
 use Rattle.apex_world.specs.RollbackData.{WentTo, HasDataOf, IsRestoredBy, RestoresData}
-use Rattle.apex_world.specs.Rows.{is_staged, is_staged_session, may_happen, has_snapshot, undoes, has_pre_restore}
+use Rattle.apex_world.specs.Rows.{has_snapshot, undoes, has_pre_restore}
 use Rattle.apex_world.specs.Rows.{earlier, rows}
 use Rattle.apex_world.specs.RowsAfter.{still}
 use Rattle.apex_world.specs.RowsBooted.{brought_by, brought_to, or_key, source_of, has_name}
 use Rattle.apex_world.specs.Running.{runs}
 use Rattle.apex_world.specs.Selection.{Mounts}
 use Rattle.apex_world.specs.World.{World, Contents, era}
-use Rattle.apex_world.proofs.BootRows.{era_before}
-use Rattle.apex_world.proofs.BootSessions.{Loops, boot_loops}
-use Rattle.apex_world.proofs.BootTurns.{Turns, Rests, Activates, Remains, Fails, Reverts, reverted_undoable}
-use Rattle.apex_world.proofs.BootTurns.{success_states}
+use Rattle.apex_world.proofs.BootDataAlike.{was_staged, keeps_snapshot}
+use Rattle.apex_world.proofs.BootFades.{era_front}
+use Rattle.apex_world.proofs.BootSessions.{boot_loops}
+use Rattle.apex_world.proofs.BootTurns.{reverted_undoable}
 use Rattle.apex_world.proofs.BootLaws.{number, turn, cause_for, way}
 use Rattle.apex_world.proofs.CommitPeers.{same_names}
 use Rattle.apex_world.proofs.RollbackDataLemmas.{number_activated, number_reverted, is_became, became_is, goes_back}
@@ -130,36 +125,7 @@ module _ (after : List Record) (name key : List ℕ) where
 
 -- What the sessions of a lawful world keep
 
-committed_some : (o : Option RollbackState) → is_committed o ≡ true → (o ≡ Some Committed) × (is_some o ≡ true)
-committed_some None e = absurd (cc)
-committed_some (Some Enabling) e = absurd (cc)
-committed_some (Some Available) e = absurd (cc)
-committed_some (Some Committed) e = (refl, refl)
-committed_some (Some Deleted) e = absurd (cc)
-
--- a session that a boot activates was ready
-was_ready : (cause : Option Cause) (b : ℕ) (r s : Record) → r.state ≢ state.Activated
-    → s.state ≡ state.Activated → Turns cause b r s → is_staged r.state ≡ true
-was_ready cause b r s d e (Rests f g h) = absurd (d (sym g ∙ e))
-was_ready cause b r s d e (Activates f g h i) = ap is_staged f
-was_ready cause b r s d e (Remains f g h i) = absurd (d f)
-was_ready cause b r s d e (Fails f g h) = absurd (cc)
-was_ready cause b r s d e (Reverts f g h) = absurd (cc)
-
 module _ (w : World) (law : Lawful w) where
-  -- a session keeps what its names had before it while the session that goes back is ready
-  snapshot_kept : (x r : Record) → In x w.sessions → In r w.sessions → IsRollbackSession w.sessions x r
-      → is_staged r.state ≡ true → has_snapshot w.sessions x ≡ true
-  snapshot_kept x r h i back s =
-      let (is, some) = committed_some x.rollback back.committed in
-      let laws = law.rollbacks.each x h in
-      let begun = (law.activations.each x h).some (success_states x.state (laws.committed back.committed)).1 in
-      let active : not (eqb x.activation 0) ≡ true = ap not (ne_eqb x.activation 0 (λ z. omega (arith, begun, z))) in
-      let may : may_happen w.sessions x.id x.rollback ≡ true = ap (may_happen w.sessions x.id) is
-      ∙ ap is_staged_session (ap (session_of w.sessions) (sym back.id) ∙ of_in w.sessions r law.ids.ascend i) ∙ s in
-      and_from (rolls_back x.kind && not (eqb x.activation 0)) (may_happen w.sessions x.id x.rollback)
-      (and_from (rolls_back x.kind) (not (eqb x.activation 0)) (sym laws.kind ∙ some) active) may
-
   -- the row of what a session keeps
   kept_row : (test : Record → Bool) (id : SessionId) (r : Record) (name key : List ℕ)
       → session_of w.sessions id ≡ Some r → test r ≡ true → names name r ≡ true
@@ -192,7 +158,7 @@ module _ (w : World) (law : Lawful w) (order : BootOrder) (mounts : Mounts) (nam
       ap (λ (m : NameMap (List ℕ)). fin.get m key) has.same
       ∙ ap (λ (c : Contents). value_of c name key)
       (ap (λ (eras : List Contents). era eras r.activation) loops
-      ∙ era_before w.eras w.contents r.activation (law.activations.each r h).most)
+      ∙ era_front w.eras w.contents r.activation (law.activations.each r h).most)
 
   activated_row : (r : Record) (x : SessionId) → In r w.sessions → r.kind ≡ RollbackOf x → names name r ≡ true
       → WentTo state.Activated r after → value_of after.contents name key ≡ row_of (SnapshotOf x name key)
@@ -203,13 +169,13 @@ module _ (w : World) (law : Lawful w) (order : BootOrder) (mounts : Mounts) (nam
       let low = record_id w law y i in
       let same : z ≡ y = cc (found, there) in
       let is : IsRollbackSession w.sessions y r = subst (λ (z : Record). IsRollbackSession w.sessions z r) same back in
-      let ready = was_ready (cause_for w law order mounts r) (number w law order mounts) r (turn w law order mounts r)
+      let ready = was_staged (cause_for w law order mounts r) (number w law order mounts) r (turn w law order mounts r)
       went.was (goes_back w order mounts law state.Activated refl r h went) (way w law order mounts r) in
       let names_it : names name y ≡ true = sym (same_names w.sessions y [] name)
       ∙ ap (λ (ps : List Part). list_any (λ p. bytes_eq p.name name) ps) (sym is.parts) ∙ named in
       earlier_data y i has
       ∙ sym (snapshot_at w law x name key (omega (arith, low, same_number))
-      ∙ kept_row w law (has_snapshot w.sessions) x y name key found (snapshot_kept w law y r i h is ready) names_it)
+      ∙ kept_row w law (has_snapshot w.sessions) x y name key found (keeps_snapshot w law y r i h is ready) names_it)
 
   reverted_row : (r : Record) (x : SessionId) → In r w.sessions → r.kind ≡ RollbackOf x → names name r ≡ true
       → WentTo state.Reverted r after → runs after name ≡ true

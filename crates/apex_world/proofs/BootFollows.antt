@@ -136,7 +136,7 @@ module _ (w : World) (ids : HaveIds w.sessions) (undone : HaveRollbackSessions w
   turned : Leads Boots w.sessions mid
   turned = leads_map Boots turn w.sessions ids.ascend (λ r. (turn_boots r).kept.id) (λ r h. turn_boots r)
 
-  mid_new : (x : Record) → In x (eligible mid) → AreNew mid x
+  pub mid_new : (x : Record) → In x (eligible mid) → AreNew mid x
   mid_new x h =
       let (i, e) = among_eligible mid x h in
       let (r, j, f) = in_map_back turn x w.sessions i in

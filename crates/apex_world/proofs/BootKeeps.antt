@@ -1,23 +1,18 @@
 -- What sessions keep after a boot, its boot loop among it, they kept before it, but for what it puts by. Callers want
 -- `boot_keeps`.
-use Rattle.std.proofs.Common.{◌≡◌, ◌⊎◌, Bool, true, false, cond, eqb, ◌&&◌, List, Option, Some, None}
+use Rattle.std.proofs.Common.{◌≡◌, ◌⊎◌, Bool, true, false, eqb, ◌&&◌, List, Option, Some, None}
 use Rattle.std.proofs.Common.{sym, ap, subst, ◌∙◌, refl, inl, inr, if◌then◌else◌}
 use Rattle.std.specs.Prelude.{not}
-use Rattle.std.proofs.lemmas.Bool.{and_parts, and_from, false≢true}
+use Rattle.std.proofs.lemmas.Bool.{and_parts, and_from}
 use Rattle.apex_base.specs.declared.numbers.SessionId.{SessionId}
 use Rattle.apex_base.specs.declared.records.Record.{Record}
 use Rattle.apex_base.specs.declared.records.RollbackState.{RollbackState}
 use Rattle.apex_base.specs.declared.records.RollbackState.TheVariants.{Enabling, Available, Committed, Deleted}
-use Rattle.apex_base.specs.declared.records.State.{State}
-use Rattle.apex_base.specs.declared.records.State.TheVariants as state
 use Rattle.apex_base.specs.Commit.{rollback_id, rolls_back}
-use Rattle.apex_base.specs.Held.{is_available, is_undoable}
-use Rattle.apex_base.specs.Members.{In}
+use Rattle.apex_base.specs.Held.{is_undoable}
 use Rattle.apex_base.specs.Rollbacks.{is_enabling, is_eligible}
 use Rattle.apex_base.specs.Sessions.{session_of}
 use Rattle.apex_base.specs.Windows.{is_looping}
-use Rattle.apex_base.proofs.MemberLemmas.{in_map_back}
-use Rattle.apex_base.proofs.SessionLemmas.{of_found}
 use Rattle.apex_world.specs.declared.calls.BootOrder.{BootOrder}
 use Rattle.apex_world.specs.Boot.{started, boot_world, after_loop, loop_trigger}
 use Rattle.apex_world.specs.Invariance.{IsOrderOf}
@@ -25,25 +20,15 @@ use Rattle.apex_world.specs.Lawful.{Lawful}
 use Rattle.apex_world.specs.Rows.{is_staged, is_staged_session, may_happen, has_snapshot, undoes, has_pre_restore}
 use Rattle.apex_world.specs.Selection.{Mounts}
 use Rattle.apex_world.specs.World.{World}
+use Rattle.apex_world.proofs.BootFades.{turn_staged}
 use Rattle.apex_world.proofs.BootLaws.{number, turn, after, keeps, way, cause_for, found_map}
 use Rattle.apex_world.proofs.BootModules.{kept_before}
 use Rattle.apex_world.proofs.BootRollbacks.{Settles, settles}
 use Rattle.apex_world.proofs.BootRuns.{started_running}
 use Rattle.apex_world.proofs.BootTurned.{turned_activation, turned_undoable}
-use Rattle.apex_world.proofs.BootTurns.{Turns, Rests, Activates, Remains, Fails, Reverts, rests}
-use Rattle.apex_world.proofs.KeptRows.{Was, KeepsPast, KeepsRows, keeps_all, keeps_on, ready_some, triggered_keeps}
-use Rattle.apex_world.proofs.KeptRows.{may_available}
-
--- no session that a boot has looked at is ready
-never_rests : (s : State) → rests s ≡ true → is_staged s ≡ false
-never_rests state.Verified e = refl
-never_rests state.Staged e = absurd (cc)
-never_rests state.Activated e = refl
-never_rests state.ActivationFailed e = refl
-never_rests state.Success e = refl
-never_rests state.RevertInProgress e = refl
-never_rests state.Reverted e = refl
-never_rests state.Aborted e = refl
+use Rattle.apex_world.proofs.CommitWays.{available_may}
+use Rattle.apex_world.proofs.KeptRows.{Was, KeepsPast, KeepsRows, keeps_on, triggered_keeps}
+use Rattle.apex_world.proofs.StagedSome.{staged_some}
 
 may_enabling : (ss : List Record) (id : SessionId) (o : Option RollbackState) → is_enabling o ≡ true
     → may_happen ss id o ≡ true
@@ -57,29 +42,20 @@ module _ (w : World) (law : Lawful w) (order : BootOrder) (mounts : Mounts) wher
   abbrev steps : List Record
   steps = after w law order mounts
 
-  not_ready : (r : Record) → is_staged (turn w law order mounts r).state ≡ false
-  not_ready r =
-      let f = turn w law order mounts r in
-      elim (way w law order mounts r) [
-        | Rests e g a ↦ ap is_staged g ∙ never_rests r.state e
-        | Activates e g a c ↦ ap is_staged g
-        | Remains e g a c ↦ ap is_staged g
-        | Fails e g a ↦ ap is_staged g
-        | Reverts e g a ↦ ap is_staged g
-      ]
-
+  -- no session that a boot has looked at is ready
   none_ready : (id : SessionId) → is_staged_session (session_of steps id) ≡ true → ⊥
   none_ready id e =
-      let (z, found, staged) = ready_some (session_of steps id) e in
+      let (z, found, staged) = staged_some (session_of steps id) e in
       let (r, was, is) = found_map (turn w law order mounts) w.sessions (keeps w law order mounts) id z found in
-      false≢true (sym (not_ready r) ∙ ap (λ (z : Record). is_staged z.state) is ∙ staged)
+      turn_staged (cause_for w law order mounts r) (number w law order mounts) r (turn w law order mounts r)
+      (way w law order mounts r) (ap (λ (z : Record). is_staged z.state) is ∙ staged)
 
   -- a rollback that may happen after the boot might happen before it
   may_before : (id id' : SessionId) (o p : Option RollbackState) → Settles o p → may_happen steps id p ≡ true
       → may_happen w.sessions id' o ≡ true
   may_before id id' o None s m = absurd (cc)
   may_before id id' o (Some Enabling) s m = may_enabling w.sessions id' o (s.enabling refl)
-  may_before id id' o (Some Available) s m = may_available w.sessions id' o (s.available refl)
+  may_before id id' o (Some Available) s m = available_may w.sessions id' o (s.available refl)
   may_before id id' o (Some Committed) s m = absurd (none_ready (rollback_id id) m)
   may_before id id' o (Some Deleted) s m = absurd (cc)
 

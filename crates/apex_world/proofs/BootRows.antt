@@ -1,14 +1,12 @@
 -- What the rows of a world are after a boot, by the rows before it: all but those of data. Callers want `settled_at`.
-use Rattle.std.proofs.Common.{◌≡◌, ◌⊎◌, ◌≢◌, ℕ, ◌+◌, ◌-◌, ◌≤◌, ◌<◌, ◌^◌, Bool, true, false, cond, eqb, ◌&&◌, List, [], ◌∷◌, ◌++◌, length}
-use Rattle.std.proofs.Common.{Option, Some, None, sym, ap, subst, ◌∙◌, refl, inl, inr, arith}
-use Rattle.std.specs.Prelude.{option_and_then, get_or}
+use Rattle.std.proofs.Common.{◌≡◌, ◌⊎◌, ℕ, ◌<◌, ◌^◌, Bool, true, false, cond, eqb, ◌&&◌, List, []}
+use Rattle.std.proofs.Common.{Option, Some, None, sym, ap, ◌∙◌, refl, inl, inr, arith}
+use Rattle.std.specs.Prelude.{option_and_then}
 use Rattle.std.specs.List.{list_any}
 use Rattle.std.specs.Option.{option_map}
 use Rattle.std.specs.Str.{bytes_eq}
 use Rattle.std.specs.FinMap as fin
-use Rattle.std.proofs.Math.Seq.{get_or-append_seam}
 use Rattle.std.proofs.lemmas.Bool.{false≢true, ne_eqb, eqb-true, eq-eqb}
-use Rattle.std.proofs.lemmas.List.{get_or_append_left}
 use Rattle.apex_base.specs.declared.numbers.SessionId.{SessionId}
 use Rattle.apex_base.specs.declared.records.Part.{Part}
 use Rattle.apex_base.specs.declared.records.Record.{Record}
@@ -35,36 +33,13 @@ use Rattle.apex_world.specs.RowsAfter.{still}
 use Rattle.apex_world.specs.RowsBooted.{past_row, has_name, is_registered_by, lasts_in, booted_row}
 use Rattle.apex_world.specs.Selection.{Mounts, submitted_by}
 use Rattle.apex_world.specs.Watching.{is_before}
-use Rattle.apex_world.specs.World.{World, Contents, boots, era}
+use Rattle.apex_world.specs.World.{World, Contents, era}
+use Rattle.apex_world.proofs.BootFades.{era_front, era_last}
 use Rattle.apex_world.proofs.BootLaws.{number, number_is}
 use Rattle.apex_world.proofs.BootWatchRows.{watch_after}
 use Rattle.apex_world.proofs.KeptRows.{Was, KeepsPast, KeepsRows}
 use Rattle.apex_world.proofs.OpenedTables.{end_if}
 use Rattle.apex_world.proofs.WorldRows.{file_at, data_at, snapshot_at, pre_restore_at, watch_at}
-
--- The eras after a boot
-
-before_if : (x : Bool) (eras : List Contents) (c : Contents) (b : ℕ) → eqb b 0 ≡ x → b ≤ length eras
-    → cond x fin.empty (get_or (eras ++ c ∷ []) (b - 1) fin.empty) ≡ cond x fin.empty (get_or eras (b - 1) fin.empty)
-before_if true eras c b e l = refl
-before_if false eras c b e l =
-    get_or_append_left eras (c ∷ []) fin.empty (b - 1) (below b e l)
-  where
-    below : (b : ℕ) → eqb b 0 ≡ false → b ≤ length eras → b - 1 < length eras
-    below b e l = let d : b ≢ 0 = λ z. false≢true (sym e ∙ eq-eqb b 0 z) in omega (arith, l, d)
-
--- those of earlier boots stay
-pub era_before : (eras : List Contents) (c : Contents) (b : ℕ) → b ≤ length eras
-    → era (eras ++ c ∷ []) b ≡ era eras b
-era_before eras c b l = before_if (eqb b 0) eras c b refl l
-
--- and that of the boot is what there was
-pub era_now : (eras : List Contents) (c : Contents) (b : ℕ) → b ≡ length eras + 1 → era (eras ++ c ∷ []) b ≡ c
-era_now eras c b e =
-    ap (λ (x : Bool). cond x fin.empty (get_or (eras ++ c ∷ []) (b - 1) fin.empty))
-    (ne_eqb b 0 (λ z. omega (arith, e, z)))
-    ∙ ap (λ (i : ℕ). get_or (eras ++ c ∷ []) i fin.empty) (omega (arith, e))
-    ∙ get_or-append_seam eras c [] fin.empty
 
 still_if : (b : Bool) (o p : Option (List ℕ)) → (b ≡ true → o ≡ p) → cond b o None ≡ cond b p None
 still_if true o p e = e refl
@@ -120,7 +95,7 @@ module _ (w : World) (law : Lawful w) (order : BootOrder) (mounts : Mounts) wher
       now_settled s e = still_if (names name s) (value_of (era u.eras s.activation) name key)
           (row_of (DataOf name key)) (λ f.
           ap (λ (c : Contents). value_of c name key)
-          (era_now w.eras w.contents s.activation (e ∙ number_is w law order mounts))
+          (era_last w.eras w.contents s.activation e)
           ∙ sym (data_at w law name key))
 
       -- what was kept stays
@@ -130,7 +105,7 @@ module _ (w : World) (law : Lawful w) (order : BootOrder) (mounts : Mounts) wher
           let most = (law.activations.each r (of_found w.sessions id r was.found).0).most in
           let same = was.activation in
           ap (λ (c : Contents). cond (names name s) (value_of c name key) None)
-          (era_before w.eras w.contents s.activation (omega (arith, most, same))
+          (era_front w.eras w.contents s.activation (omega (arith, most, same))
           ∙ ap (λ (b : ℕ). era w.eras b) was.activation)
           ∙ ap (λ (ps : List Part). cond (list_any (λ p. bytes_eq p.name name) ps)
           (value_of (era w.eras r.activation) name key) None) was.parts

@@ -3,7 +3,7 @@ use Rattle.std.proofs.Common.{◌≡◌, ℕ, Bool, true, false, List, [], Some,
 use Rattle.apex_base.specs.Keys.{Key, DataOf, IsKey}
 use Rattle.apex_base.specs.Windows.{is_looping}
 use Rattle.apex_world.specs.declared.calls.BootOrder.{BootOrder}
-use Rattle.apex_world.specs.Boot.{started, boot_world, after_loop, loop_trigger}
+use Rattle.apex_world.specs.Boot.{started, after_loop, loop_trigger}
 use Rattle.apex_world.specs.Invariance.{IsOrderOf}
 use Rattle.apex_world.specs.Lawful.{Lawful}
 use Rattle.apex_world.specs.Rows.{row_at, rows}

@@ -254,7 +254,7 @@ pass_ok (Some refusal) next x e = absurd (cc)
 
 module _ (w : World) (a : Ascend w.sessions) (id : SessionId) (children : List SessionId) (rollback : Bool)
     (parts : List FileMap) where
-  free : (ps : List Package) → admitted w id children parts ≡ Ok ps → id_taken w.sessions [] (id ∷ children) ≡ None
+  pub free : (ps : List Package) → admitted w id children parts ≡ Ok ps → id_taken w.sessions [] (id ∷ children) ≡ None
   free ps e =
       let ranged = pass_ok (id_range (id ∷ children)) _ ps e in
       (pass_ok (id_taken w.sessions [] (id ∷ children)) _ ps ranged.1).0
@@ -365,7 +365,7 @@ among_named ss name x h = let (i, e) = in_filter (λ x. is_eligible ss x && name
 )
 
 -- the rollbacks that a reason asks for
-among_asked : (ss : List Record) (name : List ℕ) (why : Reason) (x : Record) → In x (rollbacks_for why name ss)
+pub among_asked : (ss : List Record) (name : List ℕ) (why : Reason) (x : Record) → In x (rollbacks_for why name ss)
     → In x ss × (is_available x.rollback ≡ true)
 among_asked ss name reason.Unknown x h = among_named ss name x h
 among_asked ss name reason.NativeCrash x h = among_eligible ss x h
@@ -373,7 +373,7 @@ among_asked ss name reason.HealthCheck x h = among_named ss name x h
 among_asked ss name reason.AppCrash x h = among_named ss name x h
 among_asked ss name reason.AppNotResponding x h = among_named ss name x h
 
-asked_ascend : (ss : List Record) (name : List ℕ) (why : Reason) → Ascend ss → Ascend (rollbacks_for why name ss)
+pub asked_ascend : (ss : List Record) (name : List ℕ) (why : Reason) → Ascend ss → Ascend (rollbacks_for why name ss)
 asked_ascend ss name reason.Unknown a = ascend_filter (λ x. is_eligible ss x && names name x) ss a
 asked_ascend ss name reason.NativeCrash a = ascend_filter (is_eligible ss) ss a
 asked_ascend ss name reason.HealthCheck a = ascend_filter (λ x. is_eligible ss x && names name x) ss a

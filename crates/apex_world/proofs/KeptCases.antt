@@ -12,31 +12,29 @@ use Rattle.apex_base.specs.declared.records.Pick.{Pick}
 use Rattle.apex_base.specs.declared.records.Place.{Place}
 use Rattle.apex_base.specs.declared.records.Place.TheVariants.{Data}
 use Rattle.apex_base.specs.declared.records.Record.{Record}
-use Rattle.apex_base.specs.declared.records.RollbackState.{RollbackState}
 use Rattle.apex_base.specs.declared.records.State.{State}
 use Rattle.apex_base.specs.declared.records.State.TheVariants as state
 use Rattle.apex_base.specs.declared.records.Target.{Target}
 use Rattle.apex_base.specs.declared.records.Target.TheVariants as targets
-use Rattle.apex_base.specs.Held.{is_unfinished, is_standing, held, kept}
+use Rattle.apex_base.specs.Held.{is_unfinished, held, kept}
 use Rattle.apex_base.specs.Members.{In}
 use Rattle.apex_base.specs.Modules.{FileMap}
 use Rattle.apex_world.specs.declared.calls.BootOrder.{BootOrder}
-use Rattle.apex_world.specs.declared.calls.Image.{Image}
 use Rattle.apex_world.specs.declared.modules.Package.{Package}
-use Rattle.apex_world.specs.Boot.{rebuilt_in, with_rollback, activated_in, booted, aged, become, is_same_build, rebuilt}
+use Rattle.apex_world.specs.Boot.{rebuilt_in, activated_in, aged, become, is_same_build, rebuilt}
 use Rattle.apex_world.specs.Boot.{reverted}
-use Rattle.apex_world.specs.BootByRows.{key_in, kept_case, target_case_in, case_in, cause_in, activated_by_rows, become_in}
+use Rattle.apex_world.specs.BootByRows.{key_in, kept_case, case_in, cause_in, become_in}
 use Rattle.apex_world.specs.BootByRows.{choice_in, pick_in, chosen_in}
 use Rattle.apex_world.specs.Lawful.{Lawful}
 use Rattle.apex_world.specs.Rows.{rows}
-use Rattle.apex_world.specs.Selection.{Mounts, preinstalled, submitted_by, data_case, submitted_case, target_case}
+use Rattle.apex_world.specs.Selection.{Mounts, preinstalled, submitted_by, data_case, submitted_case}
 use Rattle.apex_world.specs.Selection.{case_beside, cause_or, cause_of, fallback, choice, pick_of, with_pick, chosen}
-use Rattle.apex_world.specs.Soundness.{is_sound, is_same_key, is_same_key_at, key_of}
+use Rattle.apex_world.specs.Soundness.{is_sound, is_same_key, key_of}
 use Rattle.apex_world.specs.World.{World}
 use Rattle.apex_world.proofs.AlikeAfter.{in_target}
+use Rattle.apex_world.proofs.BootTurnsAlike.{held_kept}
 use Rattle.apex_world.proofs.HeldModules.{kept_file}
-use Rattle.apex_world.proofs.KeptLemmas.{Own, Holds, keeps, keeps_for}
-use Rattle.apex_world.proofs.LatestLemmas.{latest_is}
+use Rattle.apex_world.proofs.KeptLemmas.{Own, keeps}
 
 -- a sound module doesn't work for one of three reasons
 sound_case : (mounts : Mounts) (content : FileMap) (version : ℕ) (m : Package) → is_sound content ≡ true
@@ -45,17 +43,6 @@ sound_case mounts content version m sound =
     ap (λ (b : Bool). cond (nat_lt version m.version) (Some BelowPreinstalled)
     (cond (not (is_same_key content m.content)) (Some KeyDiffers)
     (cond (not b) (Some Unsound) (cond (mounts m.name version Data) None (Some NoMount))))) sound
-
--- a module that a name holds is kept
-held_kept : (ss : List Record) (name : List ℕ) (session : SessionId) (part version : ℕ)
-    → held ss name ≡ targets.Module session part version
-    → In (targets.Module session part version) (kept ss)
-held_kept ss name session part version e =
-    elim (latest_is (λ s. is_standing s.state) name ss) [
-      | inl n ↦ absurd (cc (e, n.1))
-      | inr (r, p, l, is) ↦ keeps_for ss r name p (targets.Module session part version) l.among l.part
-          (λ q same _. Holds l.counts (sym e ∙ ap (held ss) (sym same)))
-    ]
 
 module _ (w : World) (law : Lawful w) (mounts : Mounts) where
   -- the file of a kept module's key

@@ -1,11 +1,10 @@
 -- What sessions keep of modules and of data after a change, they kept before it, but for what boot n puts by. Callers want
 -- `KeepsRows`, `keeps_all`, `keeps_on` and `triggered_keeps`.
 use Rattle.std.proofs.Common.{◌≡◌, ◌⊎◌, ℕ, Bool, true, false, eqb, ◌&&◌, List, [], ◌∷◌, filter, Option, Some, None}
-use Rattle.std.proofs.Common.{sym, ap, subst, ◌∙◌, refl, inl, inr, arith}
+use Rattle.std.proofs.Common.{sym, ap, ◌∙◌, refl, inl, inr, arith}
 use Rattle.std.specs.Prelude.{not}
 use Rattle.std.proofs.lemmas.Bool.{and_parts, and_from, false≢true}
 use Rattle.apex_base.specs.declared.numbers.SessionId.{SessionId}
-use Rattle.apex_base.specs.declared.records.Part.{Part}
 use Rattle.apex_base.specs.declared.records.Record.{Record}
 use Rattle.apex_base.specs.declared.records.RollbackState.{RollbackState}
 use Rattle.apex_base.specs.declared.records.RollbackState.TheVariants.{Enabling, Available, Committed, Deleted}
@@ -29,7 +28,9 @@ use Rattle.apex_world.specs.World.{World}
 use Rattle.apex_world.proofs.CommitKept.{kept_before}
 use Rattle.apex_world.proofs.CommitOne.{CommitsTo, Taken, GivesWay, Stays, leaves, members, was_so}
 use Rattle.apex_world.proofs.CommitRuns.{eligible_available, committed_running}
+use Rattle.apex_world.proofs.CommitWays.{available_may}
 use Rattle.apex_world.proofs.OpenedSessions.{one_session}
+use Rattle.apex_world.proofs.StagedSome.{staged_some}
 use Rattle.apex_world.proofs.TriggerRuns.{AreEligible, rest_eligible, filter_eligible}
 use Rattle.apex_world.proofs.WorldRows.{same_id}
 
@@ -97,20 +98,6 @@ keeps_on n ss ts us a b = record {
 
 -- A commit
 
--- a session that is ready
-pub ready_some : (o : Option Record) → is_staged_session o ≡ true
-    → (z : Record) × (o ≡ Some z) × (is_staged z.state ≡ true)
-ready_some None e = absurd (false≢true e)
-ready_some (Some z) e = (z, refl, e)
-
-pub may_available : (ss : List Record) (id : SessionId) (o : Option RollbackState) → is_available o ≡ true
-    → may_happen ss id o ≡ true
-may_available ss id None e = absurd (cc)
-may_available ss id (Some Enabling) e = absurd (cc)
-may_available ss id (Some Available) e = refl
-may_available ss id (Some Committed) e = absurd (cc)
-may_available ss id (Some Deleted) e = absurd (cc)
-
 -- a rollback that is available isn't committed
 never_both : (o : Option RollbackState) → is_available o ≡ true → is_committed o ≡ true → ⊥
 never_both None e f = absurd (cc)
@@ -138,7 +125,7 @@ module _ (w : World) (law : Lawful w) (x : Record) (h : In x w.sessions) (e : is
       → is_staged_session (session_of after (rollback_id r.id)) ≡ true
       → is_staged_session (session_of ss (rollback_id r.id)) ≡ true
   ready_before r i c f =
-      let (z, found, staged) = ready_some (session_of after (rollback_id r.id)) f in
+      let (z, found, staged) = staged_some (session_of after (rollback_id r.id)) f in
       let (j, number) = of_found after (rollback_id r.id) z found in
       elim (members ss x print z j) [
         | inl made ↦
@@ -169,7 +156,7 @@ module _ (w : World) (law : Lawful w) (x : Record) (h : In x w.sessions) (e : is
   may_before : (r s : Record) → In r ss → CommitsTo x r s → may_happen after s.id s.rollback ≡ true
       → may_happen ss r.id r.rollback ≡ true
   may_before r s i (Taken same f) m =
-      may_available ss r.id r.rollback
+      available_may ss r.id r.rollback
       (ap (λ (r : Record). is_available r.rollback) (one_session ss r x law.ids.ascend i h same) ∙ e)
   may_before r s i (GivesWay d wait f) m =
       may_less r r.rollback i refl (ap (λ (s : Record). may_happen after s.id s.rollback) (sym f) ∙ m)

@@ -28,6 +28,8 @@ use Rattle.apex_world.proofs.AlikeLemmas.{other, beside, unchanged, refused_alik
 use Rattle.apex_world.proofs.KeptLemmas.{stands_as, ordered}
 use Rattle.apex_world.proofs.KeptLess.{Goes, Carries}
 use Rattle.apex_world.proofs.OpenedSessions.{one_session}
+use Rattle.apex_world.proofs.OrderedAfter.{IsUnder, ordered_one}
+use Rattle.apex_world.proofs.StagedSome.{staged_some}
 use Rattle.apex_world.proofs.WorldRows.{same_id}
 
 -- Ready and Abort, by states
@@ -124,11 +126,6 @@ module _ (w : World) (law : Lawful w) (r r' : Record) (h : In r w.sessions) (sam
   abbrev after : List Record
   after = with_session r' w.sessions
 
-  staged_some : (o : Option Record) → is_staged_session o ≡ true
-      → (z : Record) × (o ≡ Some z) × (is_staged z.state ≡ true)
-  staged_some None e = absurd (cc)
-  staged_some (Some z) e = (z, refl, e)
-
   -- a rollback session that waits for the next boot has waited before
   staged_before : (x : Record) → In x w.sessions → is_committed x.rollback ≡ true
       → is_staged_session (session_of after (rollback_id x.id)) ≡ true
@@ -216,35 +213,43 @@ module _ (w v : World) (a : AreAlikeInParts w v) (law : Lawful w) (m : Move)
     available = λ s. (or_right (is_undoable r.state) (is_available r.rollback) (available r.rollback s), refl);
   }
 
+  under_early : (r : Record) (t : State) → IsEarlyMove r.state t → IsUnder r (moved_to r t)
+  under_early r t e = record {
+    id = refl;
+    parts = refl;
+    activation = refl;
+    stands = λ s. absurd (false≢true (sym e.stands ∙ s));
+    undoable = λ s. absurd (false≢true (sym e.undoable ∙ s));
+  }
+
   to_alike : (r : Record) (o : Option State) → In r w.sessions → moved r.state m ≡ o
-      → Lawful (move_to w w.clock r m o).world
       → AreSteppedAlike (move_to w w.clock r m o) (move_to (other w v a) w.clock r m o)
-  to_alike r None h e lawful = refused_alike w (other w v a) _ (unchanged w v a)
-  to_alike r (Some t) h e lawful =
+  to_alike r None h e = refused_alike w (other w v a) _ (unchanged w v a)
+  to_alike r (Some t) h e =
       let move = early r.state t e in
       let r' = moved_to r t in
       record {
         reply = refl;
-        world = alike_after w v a (with_session r' w.sessions) (ordered w law) (ordered _ lawful)
+        world = alike_after w v a (with_session r' w.sessions) (ordered w law)
+            (ordered_one r r' w.sessions (ordered w law) h (under_early r t move))
             (carries_one w.sessions law.ids.ascend r r' h refl (goes_early r t move))
             (nothing_new w.sessions law.ids.ascend r r' h refl)
             (no_past w law r r' h refl refl move) w.clock;
       }
 
   found_alike : (id : SessionId) (o : Option Record) → session_of w.sessions id ≡ o
-      → Lawful (move_found w w.clock id m o).world
       → AreSteppedAlike (move_found w w.clock id m o) (move_found (other w v a) w.clock id m o)
-  found_alike id None e lawful = refused_alike w (other w v a) _ (unchanged w v a)
-  found_alike id (Some r) e lawful = to_alike r (moved r.state m) (of_found w.sessions id r e).0 refl lawful
+  found_alike id None e = refused_alike w (other w v a) _ (unchanged w v a)
+  found_alike id (Some r) e = to_alike r (moved r.state m) (of_found w.sessions id r e).0 refl
 
-pub ready_alike : (w v : World) → AreAlikeInParts w v → Lawful w → (id : SessionId) → Lawful (ready w id).world
+pub ready_alike : (w v : World) → AreAlikeInParts w v → Lawful w → (id : SessionId)
     → AreSteppedAlike (ready w id) (ready v id)
-ready_alike w v a law id lawful =
+ready_alike w v a law id =
     beside w v a (λ z. ready z id)
-    (found_alike w v a law step_of.Ready ready_early (λ o e. e) id (session_of w.sessions id) refl lawful)
+    (found_alike w v a law step_of.Ready ready_early (λ o e. e) id (session_of w.sessions id) refl)
 
-pub abort_alike : (w v : World) → AreAlikeInParts w v → Lawful w → (id : SessionId) → Lawful (abort w id).world
+pub abort_alike : (w v : World) → AreAlikeInParts w v → Lawful w → (id : SessionId)
     → AreSteppedAlike (abort w id) (abort v id)
-abort_alike w v a law id lawful =
+abort_alike w v a law id =
     beside w v a (λ z. abort z id)
-    (found_alike w v a law step_of.Abort abort_early abort_available id (session_of w.sessions id) refl lawful)
+    (found_alike w v a law step_of.Abort abort_early abort_available id (session_of w.sessions id) refl)

@@ -78,7 +78,7 @@ same_session ss r s a h i e =
     let g : session_of ss r.id ≡ Some s = ap (session_of ss) id ∙ of_in ss s a i in
     cc (f, g)
 
-not_both : (o : Option RollbackState) → is_available o ≡ true → is_committed o ≡ true → ⊥
+pub not_both : (o : Option RollbackState) → is_available o ≡ true → is_committed o ≡ true → ⊥
 not_both None a c = absurd (cc)
 not_both (Some rollbacks.Enabling) a c = absurd (cc)
 not_both (Some rollbacks.Available) a c = absurd (cc)

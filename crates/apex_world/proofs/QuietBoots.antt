@@ -1,10 +1,8 @@
 -- A boot without observers: nobody acts in a boot loop, and all goes by rows. Callers want `quiet_world`, `quiet_changes`,
 -- `quiet_loop` and `boots_by_rows`.
-use Rattle.std.proofs.Common.{◌≡◌, ℕ, ◌+◌, Bool, true, false, List, [], ◌∷◌, ◌++◌, length, map, flat_map, Option, Some, None}
-use Rattle.std.proofs.Common.{sym, ap, subst, ◌∙◌, refl, inl, inr, if◌then◌else◌}
+use Rattle.std.proofs.Common.{◌≡◌, ℕ, ◌+◌, Bool, true, false, List, [], ◌∷◌, ◌++◌, length, map, flat_map, Some, None}
+use Rattle.std.proofs.Common.{sym, ap, ◌∙◌, refl, if◌then◌else◌}
 use Rattle.std.specs.Option.{option_map}
-use Rattle.apex_base.specs.declared.numbers.SessionId.{SessionId}
-use Rattle.apex_base.specs.declared.records.Pick.{Pick}
 use Rattle.apex_base.specs.declared.records.Record.{Record}
 use Rattle.apex_base.specs.Keys.{Key, Boots, RecordOf, ActiveOf, BackupOf, FileOf, DataOf, SnapshotOf, PreRestoreOf}
 use Rattle.apex_base.specs.Keys.{WatchOf, IsKey, RowMap}
@@ -14,8 +12,6 @@ use Rattle.apex_base.specs.Windows.{last_five, is_looping}
 use Rattle.apex_base.proofs.MemberLemmas.{in_map}
 use Rattle.apex_base.proofs.SessionLemmas.{of_in, ascend_map}
 use Rattle.apex_world.specs.declared.calls.BootOrder.{BootOrder}
-use Rattle.apex_world.specs.declared.calls.BootReply.{BootReply}
-use Rattle.apex_world.specs.declared.calls.Changed.{Changed}
 use Rattle.apex_world.specs.Boot.{become, started, boot_loop, after_loop, boot_world, changed_to, changed_in, changes}
 use Rattle.apex_world.specs.Boot.{told_loop, boot_reply}
 use Rattle.apex_world.specs.BootByRows.{become_in, sessions_in, active_in, chosen_in, with_moment, reply_in}
@@ -25,27 +21,15 @@ use Rattle.apex_world.specs.Lawful.{Lawful}
 use Rattle.apex_world.specs.Plain.{moments_left, plain_loop}
 use Rattle.apex_world.specs.Rows.{row_at, rows, boots_text}
 use Rattle.apex_world.specs.RowsBooted.{booted_row}
-use Rattle.apex_world.specs.Selection.{Mounts, chosen}
+use Rattle.apex_world.specs.Selection.{Mounts}
 use Rattle.apex_world.specs.Trigger.{Triggered, eligible, triggered}
 use Rattle.apex_world.specs.World.{World, boots}
 use Rattle.apex_world.proofs.BootedRows.{booted_rows}
 use Rattle.apex_world.proofs.BootLaws.{number, turn, after, keeps, number_is}
 use Rattle.apex_world.proofs.BootModules.{kept_before}
 use Rattle.apex_world.proofs.KeptCases.{become_by_rows, chosen_by_rows}
-use Rattle.apex_world.proofs.RecentMoments.{recent_is, looping_recent}
-
-each_same : (f g : Record → Record) (ss : List Record) → ((r : Record) → In r ss → f r ≡ g r) → map f ss ≡ map g ss
-each_same f g [] same = refl
-each_same f g (r ∷ ss) same =
-    ap (λ (s : Record). s ∷ map f ss) (same r (inl refl))
-    ∙ ap (λ (xs : List Record). g r ∷ xs) (each_same f g ss (λ s h. same s (inr h)))
-
-all_same : (f g : Record → List Changed) (ss : List Record) → ((r : Record) → In r ss → f r ≡ g r)
-    → flat_map f ss ≡ flat_map g ss
-all_same f g [] same = refl
-all_same f g (r ∷ ss) same =
-    ap (λ (xs : List Changed). xs ++ flat_map f ss) (same r (inl refl))
-    ∙ ap (λ (xs : List Changed). g r ++ xs) (all_same f g ss (λ s h. same s (inr h)))
+use Rattle.apex_world.proofs.MomentsAlike.{five_of, looping_alike}
+use Rattle.apex_world.proofs.PlainLemmas.{map_by, flat_map_by}
 
 -- who acts, where nobody may
 abbrev nobody : List Record → Triggered
@@ -103,7 +87,7 @@ module _ (w : World) (order : BootOrder) (alone : order.observers ≡ []) (mount
     pub quiet_changes : (boot_reply w order mounts).changes ≡ flat_map (λ r. changed_to r (step r)) w.sessions
     quiet_changes =
         ap (changes w.sessions) quiet_sessions
-        ∙ all_same (λ r. changed_in r (session_of (after w law order mounts) r.id)) (λ r. changed_to r (step r)) w.sessions
+        ∙ flat_map_by (λ r. changed_in r (session_of (after w law order mounts) r.id)) (λ r. changed_to r (step r)) w.sessions
         (λ r h. ap (changed_in r) (found_after r h))
 
 -- By rows
@@ -134,7 +118,7 @@ module _ (w : World) (law : Lawful w) (order : BootOrder) (o : IsOrderOf w order
   each_by_rows r h = become_by_rows w law mounts order n r h
 
   steps_by_rows : after w law order mounts ≡ sessions_in mounts (rows w) order n w.sessions
-  steps_by_rows = each_same f (g n) w.sessions each_by_rows
+  steps_by_rows = map_by f (g n) w.sessions each_by_rows
 
   sessions_by_rows : after_it.sessions ≡ sessions_in mounts (rows w) order n w.sessions
   sessions_by_rows = quiet_sessions w order alone mounts ∙ steps_by_rows
@@ -148,12 +132,13 @@ module _ (w : World) (law : Lawful w) (order : BootOrder) (o : IsOrderOf w order
   changes_by_rows : (boot_reply w order mounts).changes ≡ flat_map (λ r. changed_to r (g n r)) w.sessions
   changes_by_rows =
       quiet_changes w order alone mounts law
-      ∙ all_same (λ r. changed_to r (f r)) (λ r. changed_to r (g n r)) w.sessions
+      ∙ flat_map_by (λ r. changed_to r (f r)) (λ r. changed_to r (g n r)) w.sessions
       (λ r h. ap (changed_to r) (each_by_rows r h))
 
   looping_is : is_looping order.time (w.moments ++ order.time ∷ [])
       ≡ is_looping order.time (with_moment (last_five w.moments) order)
-  looping_is = looping_recent order.time w.moments order.time
+  looping_is = looping_alike order.time (w.moments ++ order.time ∷ []) (with_moment (last_five w.moments) order)
+      (five_of w.moments order.time)
 
   loop_by_rows : (boot_reply w order mounts).boot_loop ≡ plain_loop order.time (with_moment (last_five w.moments) order)
   loop_by_rows = quiet_loop w order alone mounts
@@ -165,7 +150,7 @@ module _ (w : World) (law : Lawful w) (order : BootOrder) (o : IsOrderOf w order
       ap (λ (u : World). last_five u.moments) (quiet_world w order alone mounts)
       ∙ ap (λ (b : Bool). last_five (if b then [] else w.moments ++ order.time ∷ [])) looping_is
       ∙ left_recent (is_looping order.time (with_moment (last_five w.moments) order)) (w.moments ++ order.time ∷ [])
-      (with_moment (last_five w.moments) order) (recent_is w.moments order.time)
+      (with_moment (last_five w.moments) order) (five_of w.moments order.time)
 
   boots_by_number : boots after_it ≡ n
   boots_by_number = ap (λ (u : World). boots u) (quiet_world w order alone mounts)

@@ -14,7 +14,7 @@ use Rattle.apex_base.specs.declared.records.RollbackState.TheVariants.{Enabling,
 use Rattle.apex_base.specs.declared.records.State.{State}
 use Rattle.apex_base.specs.declared.records.State.TheVariants as state
 use Rattle.apex_base.specs.Commit.{rollback_id, rolls_back}
-use Rattle.apex_base.specs.Held.{is_unfinished, is_undoable, is_success, is_available}
+use Rattle.apex_base.specs.Held.{is_unfinished, is_undoable, is_standing, is_success, is_available}
 use Rattle.apex_base.specs.Moves.{moved}
 use Rattle.apex_base.specs.Sessions.{names, session_of}
 use Rattle.apex_base.proofs.MemberLemmas.{in_map, in_map_back}
@@ -31,6 +31,8 @@ use Rattle.apex_world.proofs.AlikeLemmas.{other, beside, unchanged, refused_alik
 use Rattle.apex_world.proofs.KeptLemmas.{ordered}
 use Rattle.apex_world.proofs.KeptLess.{Goes, Carries}
 use Rattle.apex_world.proofs.MovesAlike.{goes_self}
+use Rattle.apex_world.proofs.OrderedAfter.{IsUnder, under_self, ordered_map}
+use Rattle.apex_world.proofs.StagedSome.{staged_some}
 use Rattle.apex_world.proofs.WorldRows.{same_id}
 
 -- What a revert leaves of a session
@@ -74,6 +76,19 @@ goes_reverting r =
       })
     ]
 
+under_reverting : (r : Record) → IsUnder r (reverting r)
+under_reverting r =
+    elim (revert_if r r.state refl) [
+      | inl e ↦ subst (IsUnder r) (sym e) (under_self r)
+      | inr (s, e) ↦ subst (IsUnder r) (sym e) (record {
+        id = refl;
+        parts = refl;
+        activation = refl;
+        stands = λ u. ap is_standing s;
+        undoable = λ u. ap is_undoable s;
+      })
+    ]
+
 undoable_back : (r : Record) → is_undoable (reverting r).state ≡ true → is_undoable r.state ≡ true
 undoable_back r u =
     elim (revert_if r r.state refl) [
@@ -87,11 +102,6 @@ staged_back r u =
       | inl e ↦ ap (λ (s : Record). is_staged s.state) (sym e) ∙ u
       | inr (s, e) ↦ absurd (false≢true (ap (λ (s : Record). is_staged s.state) (sym e) ∙ u))
     ]
-
-staged_some : (o : Option Record) → is_staged_session o ≡ true
-    → (z : Record) × (o ≡ Some z) × (is_staged z.state ≡ true)
-staged_some None e = absurd (cc)
-staged_some (Some z) e = (z, refl, e)
 
 module _ (w : World) (law : Lawful w) where
   abbrev after : List Record
@@ -169,17 +179,17 @@ module _ (w v : World) (a : AreAlikeInParts w v) (law : Lawful w) where
   abbrev reverted_all : World → Stepped
   reverted_all z = done (record z { sessions = map reverting z.sessions })
 
-  revert_by : (b : Bool) → Lawful (cond b (reverted_all w) (refused w NothingToRevert)).world
-      → AreSteppedAlike (cond b (reverted_all w) (refused w NothingToRevert))
+  revert_by : (b : Bool) → AreSteppedAlike (cond b (reverted_all w) (refused w NothingToRevert))
       (cond b (reverted_all (other w v a)) (refused (other w v a) NothingToRevert))
-  revert_by true lawful = record {
+  revert_by true = record {
     reply = refl;
-    world = alike_after w v a (map reverting w.sessions) (ordered w law) (ordered _ lawful) (carries_all w law)
+    world = alike_after w v a (map reverting w.sessions) (ordered w law)
+        (ordered_map reverting w.sessions (ordered w law) under_reverting) (carries_all w law)
         (nothing_new w law) (no_past w law) w.clock;
   }
-  revert_by false lawful = refused_alike w (other w v a) NothingToRevert (unchanged w v a)
+  revert_by false = refused_alike w (other w v a) NothingToRevert (unchanged w v a)
 
-  pub revert_alike : Lawful (revert w).world → AreSteppedAlike (revert w) (revert v)
-  revert_alike lawful =
+  pub revert_alike : AreSteppedAlike (revert w) (revert v)
+  revert_alike =
       beside w v a revert
-      (revert_by (list_any (λ r. is_some (moved r.state step_of.Revert)) w.sessions) lawful)
+      (revert_by (list_any (λ r. is_some (moved r.state step_of.Revert)) w.sessions))

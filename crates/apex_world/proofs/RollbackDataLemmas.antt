@@ -110,7 +110,7 @@ restoring_if old new x o false true b e f g = record {
 }
 restoring_if old new x o false false b e f g = absurd (cc)
 
-restoring : (ss : List Record) (old new : Record) (k : Kind) (b : ℕ) → era_for ss old new k ≡ Some b
+pub restoring : (ss : List Record) (old new : Record) (k : Kind) (b : ℕ) → era_for ss old new k ≡ Some b
     → IsRestoring old new k
 restoring ss old new Plain b e = absurd (cc)
 restoring ss old new WithRollback b e = absurd (cc)
@@ -241,8 +241,8 @@ module _ (w : World) (order : BootOrder) (mounts : Mounts) (law : Lawful w) wher
       (activated_works (cause r) number r (f r) e (turn_of r)) p h in
       ap in_image (sym ((bytes_eq-Decides p.name name).0 g)) ∙ ap is_some found
 
-  era_activated : (r : Record) (x : SessionId) (s : Record) → r.kind ≡ RollbackOf x → session_of w.sessions x ≡ Some s
-      → r.state ≢ state.Activated → (f r).state ≡ state.Activated
+  pub era_activated : (r : Record) (x : SessionId) (s : Record) → r.kind ≡ RollbackOf x
+      → session_of w.sessions x ≡ Some s → r.state ≢ state.Activated → (f r).state ≡ state.Activated
       → era_for w.sessions r (f r) (f r).kind ≡ Some s.activation
   era_activated r x s kind found d e =
       ap (era_for w.sessions r (f r)) (keeps_kind r ∙ kind)
@@ -255,7 +255,7 @@ module _ (w : World) (order : BootOrder) (mounts : Mounts) (law : Lawful w) wher
   not_became r e true g = absurd (cc ((became_is state.Activated number_activated r (f r) g).1, e))
   not_became r e false g = refl
 
-  era_reverted : (r : Record) (x : SessionId) → r.kind ≡ RollbackOf x → r.state ≢ state.Reverted
+  pub era_reverted : (r : Record) (x : SessionId) → r.kind ≡ RollbackOf x → r.state ≢ state.Reverted
       → (f r).state ≡ state.Reverted → era_for w.sessions r (f r) (f r).kind ≡ Some r.activation
   era_reverted r x kind d e =
       ap (era_for w.sessions r (f r)) (keeps_kind r ∙ kind)

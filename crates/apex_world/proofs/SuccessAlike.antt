@@ -13,13 +13,13 @@ use Rattle.apex_base.specs.declared.records.RollbackState.TheVariants.{Enabling,
 use Rattle.apex_base.specs.declared.records.State.{State}
 use Rattle.apex_base.specs.declared.records.State.TheVariants as state
 use Rattle.apex_base.specs.Commit.{rollback_id, rolls_back}
-use Rattle.apex_base.specs.Held.{is_unfinished, is_undoable, is_success, is_available}
+use Rattle.apex_base.specs.Held.{is_unfinished, is_undoable, is_standing, is_success, is_available}
 use Rattle.apex_base.specs.Members.{In}
 use Rattle.apex_base.specs.Moves.{moved}
 use Rattle.apex_base.specs.Rollbacks.{is_enabling, no_longer}
 use Rattle.apex_base.specs.Sessions.{names, shares, session_of}
 use Rattle.apex_base.proofs.MemberLemmas.{in_map, in_map_back}
-use Rattle.apex_base.proofs.SessionLemmas.{with_any, with_self, with_others, of_found, of_in}
+use Rattle.apex_base.proofs.SessionLemmas.{with_any, with_self, with_others, of_found, of_in, ascend_with, ascend_map}
 use Rattle.apex_world.specs.Advance.{succeeding, outdated_by, after_success, success_to, success_found, success}
 use Rattle.apex_world.specs.Lawful.{Lawful}
 use Rattle.apex_world.specs.Rows.{undoes, is_staged, is_staged_session, may_happen, has_snapshot}
@@ -27,9 +27,11 @@ use Rattle.apex_world.specs.StoredAlike.{KeepsPast, AreAlikeInParts, AreSteppedA
 use Rattle.apex_world.specs.World.{World}
 use Rattle.apex_world.proofs.AlikeAfter.{NothingNew, NoPastNew, alike_after}
 use Rattle.apex_world.proofs.AlikeLemmas.{other, beside, unchanged, with_tables, refused_alike}
-use Rattle.apex_world.proofs.KeptLemmas.{stands_as, ordered}
+use Rattle.apex_world.proofs.KeptLemmas.{AreOrdered, stands_as, ordered}
 use Rattle.apex_world.proofs.KeptLess.{Goes, Carries}
 use Rattle.apex_world.proofs.OpenedSessions.{one_session}
+use Rattle.apex_world.proofs.OrderedAfter.{IsUnder, ordered_after}
+use Rattle.apex_world.proofs.StagedSome.{staged_some}
 use Rattle.apex_world.proofs.WorldRows.{same_id}
 
 -- What a success leaves of a session
@@ -105,6 +107,24 @@ goes_outdated r s o = record {
   );
 }
 
+under_outdated : (r s : Record) → IsOutdated r s → IsUnder r s
+under_outdated r s o = record {
+  id = o.like.id;
+  parts = o.like.parts;
+  activation = o.like.activation;
+  stands = λ e. ap is_standing (sym o.state) ∙ e;
+  undoable = λ e. ap is_undoable (sym o.state) ∙ e;
+}
+
+activated_under : (r s : Record) → r.state ≡ state.Activated → IsLike r s → IsUnder r s
+activated_under r s a l = record {
+  id = l.id;
+  parts = l.parts;
+  activation = l.activation;
+  stands = λ e. ap is_standing a;
+  undoable = λ e. ap is_undoable a;
+}
+
 activated_goes : (r s : Record) → r.state ≡ state.Activated → IsLike r s → s.state ≡ state.Success → Goes r s
 activated_goes r s a l t = record {
   parts = l.parts;
@@ -121,11 +141,6 @@ enabled (Some Enabling) e ss id = refl
 enabled (Some Available) e ss id = absurd (cc)
 enabled (Some Committed) e ss id = absurd (cc)
 enabled (Some Deleted) e ss id = absurd (cc)
-
-staged_some : (o : Option Record) → is_staged_session o ≡ true
-    → (z : Record) × (o ≡ Some z) × (is_staged z.state ≡ true)
-staged_some None e = absurd (cc)
-staged_some (Some z) e = (z, refl, e)
 
 module _ (w : World) (law : Lawful w) (clock : ℕ) (r : Record) (h : In r w.sessions)
     (active : r.state ≡ state.Activated) where
@@ -159,6 +174,15 @@ module _ (w : World) (law : Lawful w) (clock : ℕ) (r : Record) (h : In r w.ses
             let (q, k, e) = in_map_back (outdated_by r) s w.sessions j in
             inr (q, k, subst (IsOutdated q) e (outdated r q))
       ]
+
+  ordered_success : AreOrdered after
+  ordered_success =
+      ordered_after w.sessions after (ordered w law)
+      (ascend_with r' others (ascend_map (outdated_by r) w.sessions (λ q. (outdated r q).like.id) law.ids.ascend))
+      (λ s i. elim (from s i) [
+        | inl e ↦ inl (r, h, subst (IsUnder r) (sym e) (activated_under r r' active like))
+        | inr (q, k, o) ↦ inl (q, k, under_outdated q s o)
+      ])
 
   carries_all : Carries w.sessions after
   carries_all = record {
@@ -293,31 +317,30 @@ module _ (w v : World) (a : AreAlikeInParts w v) (law : Lawful w) (clock : ℕ) 
   marked b r z = record z { sessions = cond b z.sessions (after_success clock r z.sessions); clock = clock }
 
   marked_alike : (b : Bool) (r : Record) → In r w.sessions → (b ≡ false → r.state ≡ state.Activated)
-      → Lawful (marked b r w) → AreAlikeInParts (marked b r w) (marked b r (other w v a))
-  marked_alike true r h e lawful = with_tables w v a w.contents w.watches clock
-  marked_alike false r h e lawful =
-      alike_after w v a (after_success clock r w.sessions) (ordered w law) (ordered _ lawful)
+      → AreAlikeInParts (marked b r w) (marked b r (other w v a))
+  marked_alike true r h e = with_tables w v a w.contents w.watches clock
+  marked_alike false r h e =
+      alike_after w v a (after_success clock r w.sessions) (ordered w law)
+      (ordered_success w law clock r h (e refl))
       (carries_all w law clock r h (e refl)) (nothing_new w law clock r h (e refl))
       (no_past w law clock r h (e refl)) clock
 
   to_alike : (r : Record) (o : Option State) → In r w.sessions → moved r.state step_of.Success ≡ o
-      → Lawful (success_to w clock r o).world
       → AreSteppedAlike (success_to w clock r o) (success_to (other w v a) clock r o)
-  to_alike r None h e lawful = refused_alike w (other w v a) _ (unchanged w v a)
-  to_alike r (Some t) h e lawful = record {
+  to_alike r None h e = refused_alike w (other w v a) _ (unchanged w v a)
+  to_alike r (Some t) h e = record {
     reply = refl;
-    world = marked_alike (is_success r.state) r h (λ f. success_from r.state t e f) lawful;
+    world = marked_alike (is_success r.state) r h (λ f. success_from r.state t e f);
   }
 
   found_alike : (id : SessionId) (o : Option Record) → session_of w.sessions id ≡ o
-      → Lawful (success_found w clock id o).world
       → AreSteppedAlike (success_found w clock id o) (success_found (other w v a) clock id o)
-  found_alike id None e lawful = refused_alike w (other w v a) _ (unchanged w v a)
-  found_alike id (Some r) e lawful =
-      to_alike r (moved r.state step_of.Success) (of_found w.sessions id r e).0 refl lawful
+  found_alike id None e = refused_alike w (other w v a) _ (unchanged w v a)
+  found_alike id (Some r) e =
+      to_alike r (moved r.state step_of.Success) (of_found w.sessions id r e).0 refl
 
 pub success_alike : (w v : World) → AreAlikeInParts w v → Lawful w → (time : ℕ) (id : SessionId)
-    → Lawful (success w time id).world → AreSteppedAlike (success w time id) (success v time id)
-success_alike w v a law time id lawful =
+    → AreSteppedAlike (success w time id) (success v time id)
+success_alike w v a law time id =
     beside w v a (λ z. success z time id)
-    (found_alike w v a law (max w.clock time) id (session_of w.sessions id) refl lawful)
+    (found_alike w v a law (max w.clock time) id (session_of w.sessions id) refl)

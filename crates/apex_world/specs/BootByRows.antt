@@ -18,7 +18,6 @@ use Rattle.apex_base.specs.Keys.{Key, FileOf, IsKey, RowMap, key_text}
 use Rattle.apex_base.specs.Windows.{last_five}
 use Rattle.apex_world.specs.declared.calls.BootOrder.{BootOrder}
 use Rattle.apex_world.specs.declared.calls.BootReply.{BootReply}
-use Rattle.apex_world.specs.declared.calls.Changed.{Changed}
 use Rattle.apex_world.specs.declared.modules.Package.{Package}
 use Rattle.apex_world.specs.Boot.{reverted, rebuilt, activated_in, is_same_build, aged, changed_to, boot_world, boot_reply}
 use Rattle.apex_world.specs.Invariance.{IsOrderOf}

@@ -1,9 +1,14 @@
 -- Laws of worlds that are alike: docs/rows.md, "Alike".
 use Rattle.std.specs.Prelude.{◌≡◌, Bool, true, false}
+use Rattle.apex_world.specs.declared.calls.BootOrder.{BootOrder}
 use Rattle.apex_world.specs.declared.calls.Call.{Call}
 use Rattle.apex_world.specs.declared.calls.Call.TheVariants as calls
-use Rattle.apex_world.specs.Alike.{Alike}
+use Rattle.apex_world.specs.Alike.{Alike, AlikeAfter}
+use Rattle.apex_world.specs.Boot.{boot_world, boot_reply}
+use Rattle.apex_world.specs.Invariance.{IsCall, IsOrderOf}
 use Rattle.apex_world.specs.Lawful.{Lawful}
+use Rattle.apex_world.specs.Running.{Running}
+use Rattle.apex_world.specs.Selection.{Mounts}
 use Rattle.apex_world.specs.Step.{step}
 use Rattle.apex_world.specs.StoredAlike.{AreAlikeInParts, AreSteppedAlike}
 use Rattle.apex_world.specs.World.{World}
@@ -36,3 +41,33 @@ abbrev pub QuietCallsAreAlike : Type 0
 QuietCallsAreAlike =
     (w v : World) → AreAlikeInParts w v → (call : Call) → leaves_sessions call ≡ true
     → AreSteppedAlike (step w call) (step v call)
+
+-- Calls and boots, in parts
+
+-- each call has the same reply in worlds of which the same is stored and the same runs, and leads to such worlds
+abbrev pub CallsAreAlikeInParts : Type 0
+CallsAreAlikeInParts =
+    (w v : World) → Running w → Running v → AreAlikeInParts w v → (call : Call)
+    → AreSteppedAlike (step w call) (step v call)
+
+-- and so does each boot
+abbrev pub BootsAreAlikeInParts : Type 0
+BootsAreAlikeInParts =
+    (w v : World) → Lawful w → AreAlikeInParts w v → (order : BootOrder) (mounts : Mounts)
+    → (boot_reply w order mounts ≡ boot_reply v order mounts)
+    × AreAlikeInParts (boot_world w order mounts) (boot_world v order mounts)
+
+-- Calls and boots, by rows
+
+-- each call has the same reply in worlds that are alike, and leads to worlds that are alike
+abbrev pub CallsAreAlike : Type 0
+CallsAreAlike =
+    (w v : World) → Running w → Running v → Alike w v → (call : Call) → IsCall call
+    → AlikeAfter (step w call) (step v call)
+
+-- and so does each boot
+abbrev pub BootsAreAlike : Type 0
+BootsAreAlike =
+    (w v : World) → Lawful w → Lawful v → Alike w v → (order : BootOrder) → IsOrderOf w order → (mounts : Mounts)
+    → (boot_reply w order mounts ≡ boot_reply v order mounts)
+    × Alike (boot_world w order mounts) (boot_world v order mounts)

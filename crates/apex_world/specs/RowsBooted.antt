@@ -1,9 +1,8 @@
 -- What becomes of rows at a boot: docs/rows.md, "After a boot".
-use Rattle.std.specs.Prelude.{◌≡◌, ℕ, ◌==◌, ◌&&◌, Bool, true, is_some, List, [], ◌∷◌, Option, Some, None, option_and_then, if◌then◌else◌, refl, codes}
+use Rattle.std.specs.Prelude.{◌≡◌, ℕ, ◌==◌, ◌&&◌, Bool, true, is_some, List, [], ◌∷◌, Option, Some, None, option_and_then, if◌then◌else◌}
 use Rattle.std.specs.List.{list_any}
 use Rattle.std.specs.Option.{option_map}
 use Rattle.std.specs.Str.{bytes_eq}
-use Rattle.apex_base.specs.declared.numbers.SessionId.{SessionId}
 use Rattle.apex_base.specs.declared.records.Kind.{Kind}
 use Rattle.apex_base.specs.declared.records.Kind.TheVariants.{Plain, WithRollback, RollbackOf}
 use Rattle.apex_base.specs.declared.records.Record.{Record}
@@ -21,9 +20,9 @@ use Rattle.apex_world.specs.Boot.{boot_world}
 use Rattle.apex_world.specs.Invariance.{IsOrderOf}
 use Rattle.apex_world.specs.Lawful.{Lawful}
 use Rattle.apex_world.specs.Opened.{end_of}
-use Rattle.apex_world.specs.Restore.{became, example, undone, undoing}
+use Rattle.apex_world.specs.Restore.{became}
 use Rattle.apex_world.specs.Rows.{boots_text, rows, row_at, has_snapshot, has_pre_restore}
-use Rattle.apex_world.specs.RowsAfter.{still, passes}
+use Rattle.apex_world.specs.RowsAfter.{still}
 use Rattle.apex_world.specs.Selection.{Mounts, preinstalled}
 use Rattle.apex_world.specs.Watching.{is_before}
 use Rattle.apex_world.specs.World.{World, boots}

@@ -21,6 +21,7 @@ mod boot_by_rows;
 mod decided;
 mod invariance_of_boots;
 mod invariance_of_calls;
+mod likeness;
 mod rollback_data;
 mod rows_booted;
 mod wholeness;
@@ -29,6 +30,10 @@ pub use boot_by_rows::boots_go_by_rows;
 pub use decided::lawful_worlds_are_decided;
 pub use invariance_of_boots::boots_lead_to_running;
 pub use invariance_of_calls::calls_keep_running;
+pub use likeness::{
+    boots_tell_no_alike_worlds_apart, calls_tell_no_alike_worlds_apart,
+    worlds_of_the_same_parts_stay_so,
+};
 pub use rollback_data::rollbacks_bring_back_data;
 pub use rows_booted::boots_settle_rows;
 pub use wholeness::activated_sessions_are_whole;
