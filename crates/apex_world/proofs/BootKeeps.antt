@@ -26,8 +26,9 @@ use Rattle.apex_world.proofs.BootModules.{kept_before}
 use Rattle.apex_world.proofs.BootRollbacks.{Settles, settles}
 use Rattle.apex_world.proofs.BootRuns.{started_running}
 use Rattle.apex_world.proofs.BootTurned.{turned_activation, turned_undoable}
+use Rattle.apex_world.proofs.CommitKeeps.{triggered_keeps}
 use Rattle.apex_world.proofs.CommitWays.{available_may}
-use Rattle.apex_world.proofs.KeptRows.{Was, KeepsPast, KeepsRows, keeps_on, triggered_keeps}
+use Rattle.apex_world.proofs.KeptRows.{Was, KeepsPast, KeepsRows, keeps_on}
 use Rattle.apex_world.proofs.StagedSome.{staged_some}
 
 may_enabling : (ss : List Record) (id : SessionId) (o : Option RollbackState) → is_enabling o ≡ true
@@ -131,7 +132,8 @@ module _ (w : World) (law : Lawful w) (order : BootOrder) (mounts : Mounts) wher
         → KeepsRows (number w law order mounts) w.sessions
         (after_loop v (if b then Some (loop_trigger order v.sessions) else None)).sessions
     loop_keeps true =
-        keeps_on (number w law order mounts) w.sessions v.sessions (loop_trigger order v.sessions).sessions started_keeps
+        keeps_on (number w law order mounts) w.sessions v.sessions (loop_trigger order v.sessions).sessions
+        started_keeps
         (triggered_keeps (number w law order mounts) (is_eligible v.sessions) v
         (started_running w law order o mounts) (λ x e. e) order.observers)
     loop_keeps false = started_keeps

@@ -83,10 +83,11 @@ module _ (order : BootOrder) (watches : Watches) where
   no_watch a b = ap (λ (o : Option (NameMap ℕ)). fin.get (or_empty o) b)
       (get-empty {X = NameMap ℕ} (slice_cmp nat_cmp) a) ∙ get-empty {X = ℕ} (slice_cmp nat_cmp) b
 
-  -- a watch is there after a boot if it was there, its observer is registered, its name is one of the image, and its end
-  -- isn't reached
+  -- a watch is there after a boot if it was there, its observer is registered, its name is one of the image, and its
+  -- end isn't reached
   pub watch_after : (a b : List ℕ) → value_of (watches_after order watches) a b
-      ≡ cond (is_registered_by order.observers a && (has_name order.image b && is_before order.time (value_of watches a b)))
+      ≡ cond (is_registered_by order.observers a
+      && (has_name order.image b && is_before order.time (value_of watches a b)))
       (value_of watches a b) None
   watch_after a b =
       fold_value order.observers fin.empty a b

@@ -1,6 +1,7 @@
 -- What a boot makes of a session, and what it chooses, by rows: a module that is kept is sound, and its key is in the
 -- rows. Callers want `kept_module`, `become_by_rows` and `chosen_by_rows`.
-use Rattle.std.proofs.Common.{◌≡◌, ◌⊎◌, ℕ, Bool, true, false, cond, List, [], ◌∷◌, fold, Option, Some, None, sym, ap, ◌∙◌}
+use Rattle.std.proofs.Common.{◌≡◌, ◌⊎◌, ℕ, Bool, true, false, cond, List, [], ◌∷◌, fold, Option, Some, None, sym, ap}
+use Rattle.std.proofs.Common.{◌∙◌}
 use Rattle.std.proofs.Common.{refl, inl, inr, codes}
 use Rattle.std.specs.Prelude.{not, nat_lt, is_ok, is_none}
 use Rattle.apex_base.specs.declared.numbers.SessionId.{SessionId}

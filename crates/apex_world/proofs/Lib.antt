@@ -28,10 +28,12 @@ pub mod BootUndone
 pub mod BootWatchRows
 pub mod BootWatches
 pub mod BootedRows
+pub mod BroughtBack
 pub mod CallStays
 pub mod CallsRun
 pub mod ChosenLemmas
 pub mod CommitCall
+pub mod CommitKeeps
 pub mod CommitKept
 pub mod CommitOne
 pub mod CommitParts

@@ -1,5 +1,5 @@
--- A boot without observers: nobody acts in a boot loop, and all goes by rows. Callers want `quiet_world`, `quiet_changes`,
--- `quiet_loop` and `boots_by_rows`.
+-- A boot without observers: nobody acts in a boot loop, and all goes by rows. Callers want `quiet_world`,
+-- `quiet_sessions`, `quiet_changes`, `quiet_loop` and `boots_by_rows`.
 use Rattle.std.proofs.Common.{◌≡◌, ℕ, ◌+◌, Bool, true, false, List, [], ◌∷◌, ◌++◌, length, map, flat_map, Some, None}
 use Rattle.std.proofs.Common.{sym, ap, ◌∙◌, refl, if◌then◌else◌}
 use Rattle.std.specs.Option.{option_map}
@@ -87,7 +87,8 @@ module _ (w : World) (order : BootOrder) (alone : order.observers ≡ []) (mount
     pub quiet_changes : (boot_reply w order mounts).changes ≡ flat_map (λ r. changed_to r (step r)) w.sessions
     quiet_changes =
         ap (changes w.sessions) quiet_sessions
-        ∙ flat_map_by (λ r. changed_in r (session_of (after w law order mounts) r.id)) (λ r. changed_to r (step r)) w.sessions
+        ∙ flat_map_by (λ r. changed_in r (session_of (after w law order mounts) r.id)) (λ r. changed_to r (step r))
+        w.sessions
         (λ r h. ap (changed_in r) (found_after r h))
 
 -- By rows

@@ -1,12 +1,14 @@
 -- What becomes of rows at a boot: docs/rows.md, "After a boot".
-use Rattle.std.specs.Prelude.{◌≡◌, ℕ, ◌==◌, ◌&&◌, Bool, true, is_some, List, [], ◌∷◌, Option, Some, None, option_and_then, if◌then◌else◌}
+use Rattle.std.specs.Prelude.{◌≡◌, ℕ, ◌==◌, ◌&&◌, Bool, true, is_some, List, [], ◌∷◌, Option, Some, None, option_and_then, if◌then◌else◌, refl, codes}
 use Rattle.std.specs.List.{list_any}
 use Rattle.std.specs.Option.{option_map}
 use Rattle.std.specs.Str.{bytes_eq}
 use Rattle.apex_base.specs.declared.records.Kind.{Kind}
 use Rattle.apex_base.specs.declared.records.Kind.TheVariants.{Plain, WithRollback, RollbackOf}
 use Rattle.apex_base.specs.declared.records.Record.{Record}
+use Rattle.apex_base.specs.declared.records.State.{State}
 use Rattle.apex_base.specs.declared.records.State.TheVariants as state
+use Rattle.apex_base.specs.declared.records.Target.TheVariants.{Preinstalled}
 use Rattle.apex_base.specs.Held.{kept, is_target}
 use Rattle.apex_base.specs.Keys.{Key, Boots, RecordOf, ActiveOf, BackupOf, FileOf, DataOf, SnapshotOf, PreRestoreOf, WatchOf, IsKey, RowMap}
 use Rattle.apex_base.specs.Sessions.{names, session_of}
@@ -20,7 +22,7 @@ use Rattle.apex_world.specs.Boot.{boot_world}
 use Rattle.apex_world.specs.Invariance.{IsOrderOf}
 use Rattle.apex_world.specs.Lawful.{Lawful}
 use Rattle.apex_world.specs.Opened.{end_of}
-use Rattle.apex_world.specs.Restore.{became}
+use Rattle.apex_world.specs.Restore.{became, undoing}
 use Rattle.apex_world.specs.Rows.{boots_text, rows, row_at, has_snapshot, has_pre_restore}
 use Rattle.apex_world.specs.RowsAfter.{still}
 use Rattle.apex_world.specs.Selection.{Mounts, preinstalled}
@@ -89,3 +91,21 @@ BootsSettleRows =
     (w : World) → Lawful w → (order : BootOrder) → IsOrderOf w order → (mounts : Mounts) → (k : Key) → IsKey k
     → row_at (boot_world w order mounts) k
     ≡ booted_row (rows w) w.sessions (boot_world w order mounts).sessions order (boots (boot_world w order mounts)) (boot_world w order mounts).moments k
+
+-- Worked values: session 1073741825, which goes back to before session 1 and names `a`, was activated, was reverted, or
+-- stays what it is
+
+abbrev pub example : State → Record
+example s = record (undoing s 5) { parts = record { name = codes "a"; version = None; target = Preinstalled } ∷ [] }
+
+abbrev pub example_source : State → State → Key
+example_source s t = source_of (example s ∷ []) (example t ∷ []) (codes "a") (codes "k")
+
+pub from_snapshot : example_source state.Staged state.Activated ≡ SnapshotOf (record { 0 = 1 }) (codes "a") (codes "k")
+from_snapshot = refl
+
+pub from_pre_restore : example_source state.Activated state.Reverted ≡ PreRestoreOf (record { 0 = 1073741825 }) (codes "a") (codes "k")
+from_pre_restore = refl
+
+pub from_itself : example_source state.Activated state.Activated ≡ DataOf (codes "a") (codes "k")
+from_itself = refl
