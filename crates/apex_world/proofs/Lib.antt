@@ -28,6 +28,8 @@ pub mod KeptLess
 pub mod Lasting
 pub mod LatestLemmas
 pub mod LeadsLemmas
+pub mod MoveStates
+pub mod MovedSessions
 pub mod MovesAlike
 pub mod MovesRun
 pub mod NameCounts

@@ -15,7 +15,8 @@ use Rattle.apex_world.specs.Lawful.{AllPeers, NotBothAvailable}
 use Rattle.apex_world.specs.Running.{Running}
 use Rattle.apex_world.specs.Stepped.{refused, done}
 use Rattle.apex_world.specs.World.{World}
-use Rattle.apex_world.proofs.MovesRun.{IsMove, no_move, is_reverting, turn_from, rollback_as, moved_kept}
+use Rattle.apex_world.proofs.MoveStates.{IsMove, no_move, is_reverting}
+use Rattle.apex_world.proofs.MovedSessions.{turn_from, rollback_as, moved_kept}
 use Rattle.apex_world.proofs.TurnedLemmas.{peers_from}
 use Rattle.apex_world.proofs.TurnedRuns.{turned_running}
 use Rattle.apex_world.proofs.TurnedSessions.{Turns}

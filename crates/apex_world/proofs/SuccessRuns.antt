@@ -23,7 +23,8 @@ use Rattle.apex_world.specs.Advance.{succeeding, outdated_by, after_success, suc
 use Rattle.apex_world.specs.Lawful.{AllPeers, NotBothAvailable}
 use Rattle.apex_world.specs.Running.{Running, is_activated}
 use Rattle.apex_world.specs.World.{World}
-use Rattle.apex_world.proofs.MovesRun.{IsMove, no_move, turn_from, turn_put, rollback_as, moved_kept}
+use Rattle.apex_world.proofs.MoveStates.{IsMove, no_move}
+use Rattle.apex_world.proofs.MovedSessions.{turn_from, turn_put, rollback_as, moved_kept}
 use Rattle.apex_world.proofs.OpenedSessions.{one_session}
 use Rattle.apex_world.proofs.SessionMaps.{put_for, same_put, with_as_map}
 use Rattle.apex_world.proofs.RunningLemmas.{with_watches}
