@@ -1,4 +1,6 @@
+pub mod AdmittedIds
 pub mod AdmittedLemmas
+pub mod AdmittedPackages
 pub mod AlikeAfter
 pub mod AlikeLemmas
 pub mod BootFollows
@@ -25,6 +27,7 @@ pub mod HeldLemmas
 pub mod HeldModules
 pub mod KeptLemmas
 pub mod KeptLess
+pub mod KeptWeights
 pub mod Lasting
 pub mod LatestLemmas
 pub mod LeadsLemmas
@@ -35,7 +38,9 @@ pub mod MovesRun
 pub mod NameCounts
 pub mod NamedMaps
 pub mod NewIds
+pub mod NewModules
 pub mod NewParts
+pub mod NewPast
 pub mod NewSession
 pub mod OpenedBoots
 pub mod OpenedEras
@@ -43,6 +48,7 @@ pub mod OpenedLemmas
 pub mod OpenedModules
 pub mod OpenedSessions
 pub mod OpenedTables
+pub mod OutdatedRollbacks
 pub mod OwnTargets
 pub mod PlainLemmas
 pub mod RefusedLemmas
@@ -54,6 +60,7 @@ pub mod RollbackDataLemmas
 pub mod RollbackIds
 pub mod RowWeightLemmas
 pub mod RunningLemmas
+pub mod SessionBeside
 pub mod SessionMaps
 pub mod ShortForms
 pub mod SoundRanges
@@ -64,6 +71,7 @@ pub mod SuccessRuns
 pub mod TriggerRuns
 pub mod TurnLemmas
 pub mod TurnedLemmas
+pub mod TurnedRollbacks
 pub mod TurnedRuns
 pub mod TurnedSessions
 pub mod WatchRuns
