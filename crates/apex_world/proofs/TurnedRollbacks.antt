@@ -31,7 +31,7 @@ module _ (w : World) (law : Lawful w) (g : Record → Record) (same : (r : Recor
 
   -- What a name held before a session whose rollback is committed
 
-  -- a session that succeeds now was activated after each that succeeded before
+  -- a session that succeeds now was activated after one whose rollback is committed
   none_below : (r x : Record) (name : List ℕ) → In r ss → In x ss → is_committed x.rollback ≡ true
       → names name r ≡ true → names name x ≡ true → is_success (g r).state ≡ true → is_success r.state ≡ false
       → nat_lt r.activation x.activation ≡ false
@@ -47,7 +47,7 @@ module _ (w : World) (law : Lawful w) (g : Record → Record) (same : (r : Recor
             le-ltb r.activation x.activation (omega (arith, l))
       ]
 
-  -- so the same sessions count as those before it
+  -- so the same sessions count as activated before that one
   same_test : (r x : Record) (name : List ℕ) → In r ss → In x ss → is_committed x.rollback ≡ true
       → names name r ≡ true → names name x ≡ true
       → (is_success (g r).state && nat_lt (g r).activation (g x).activation)
@@ -66,7 +66,7 @@ module _ (w : World) (law : Lawful w) (g : Record → Record) (same : (r : Recor
         ]
       ]
 
-  -- what a name held before it stays
+  -- and what a name held before it stays
   same_before : (x : Record) (name : List ℕ) → In x ss → is_committed x.rollback ≡ true → names name x ≡ true
       → before after (g x) name ≡ before ss x name
   same_before x name i c m =
