@@ -1,4 +1,6 @@
+pub mod AdmittedIds
 pub mod AdmittedLemmas
+pub mod AdmittedPackages
 pub mod AlikeAfter
 pub mod AlikeLemmas
 pub mod BootAges
@@ -7,6 +9,7 @@ pub mod BootCauses
 pub mod BootCounts
 pub mod BootData
 pub mod BootDataAlike
+pub mod BootFades
 pub mod BootFollows
 pub mod BootLaws
 pub mod BootLoops
@@ -14,7 +17,6 @@ pub mod BootModules
 pub mod BootOrdered
 pub mod BootPast
 pub mod BootRollbacks
-pub mod BootFades
 pub mod BootRuns
 pub mod BootSessions
 pub mod BootStays
@@ -56,17 +58,22 @@ pub mod HeldLemmas
 pub mod HeldModules
 pub mod KeptLemmas
 pub mod KeptLess
+pub mod KeptWeights
 pub mod Lasting
 pub mod LatestLemmas
 pub mod LeadsLemmas
 pub mod LikenessLaws
 pub mod MomentsAlike
+pub mod MoveStates
+pub mod MovedSessions
 pub mod MovesAlike
 pub mod MovesRun
 pub mod NameCounts
 pub mod NamedMaps
 pub mod NewIds
+pub mod NewModules
 pub mod NewParts
+pub mod NewPast
 pub mod NewSession
 pub mod OpenedBoots
 pub mod OpenedEras
@@ -75,6 +82,7 @@ pub mod OpenedModules
 pub mod OpenedSessions
 pub mod OpenedTables
 pub mod OrderedAfter
+pub mod OutdatedRollbacks
 pub mod OwnTargets
 pub mod PlainLemmas
 pub mod RefusedLemmas
@@ -86,6 +94,7 @@ pub mod RollbackDataLemmas
 pub mod RollbackIds
 pub mod RowWeightLemmas
 pub mod RunningLemmas
+pub mod SessionBeside
 pub mod SessionMaps
 pub mod ShortForms
 pub mod SoundRanges
@@ -99,6 +108,7 @@ pub mod TriggerRuns
 pub mod TriggersAlike
 pub mod TurnLemmas
 pub mod TurnedLemmas
+pub mod TurnedRollbacks
 pub mod TurnedRuns
 pub mod TurnedSessions
 pub mod WatchRuns
