@@ -27,6 +27,7 @@ pub mod BootUndone
 pub mod BootWatches
 pub mod CallStays
 pub mod CallsRun
+pub mod CallsSettle
 pub mod ChosenLemmas
 pub mod CommitCall
 pub mod CommitKept
@@ -53,6 +54,7 @@ pub mod DecidedWorlds
 pub mod EmptyLemmas
 pub mod EnteredAlike
 pub mod EnteredModules
+pub mod EnteredSessions
 pub mod Found
 pub mod HeldLemmas
 pub mod HeldModules
@@ -96,12 +98,15 @@ pub mod RowWeightLemmas
 pub mod RunningLemmas
 pub mod SessionBeside
 pub mod SessionMaps
+pub mod SettledRows
 pub mod ShortForms
 pub mod SoundRanges
 pub mod StagedSome
 pub mod StoredAlikeLemmas
 pub mod SubmitAlike
+pub mod SubmitRows
 pub mod SubmitRuns
+pub mod SubmitWeight
 pub mod SuccessAlike
 pub mod SuccessRuns
 pub mod TriggerRuns

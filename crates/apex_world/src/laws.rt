@@ -22,6 +22,7 @@ mod invariance_of_boots;
 mod invariance_of_calls;
 mod likeness;
 mod rollback_data;
+mod rows_after;
 mod wholeness;
 
 pub use decided::lawful_worlds_are_decided;
@@ -32,6 +33,7 @@ pub use likeness::{
     worlds_of_the_same_parts_stay_so,
 };
 pub use rollback_data::rollbacks_bring_back_data;
+pub use rows_after::{calls_settle_rows, submits_put_rows};
 pub use wholeness::activated_sessions_are_whole;
 
 /// A refused call changes nothing, the clock included.
