@@ -9,14 +9,17 @@ pub mod BootCauses
 pub mod BootCounts
 pub mod BootData
 pub mod BootDataAlike
+pub mod BootDataRows
 pub mod BootFades
 pub mod BootFollows
+pub mod BootKeeps
 pub mod BootLaws
 pub mod BootLoops
 pub mod BootModules
 pub mod BootOrdered
 pub mod BootPast
 pub mod BootRollbacks
+pub mod BootRows
 pub mod BootRuns
 pub mod BootSessions
 pub mod BootStays
@@ -24,7 +27,9 @@ pub mod BootTurned
 pub mod BootTurns
 pub mod BootTurnsAlike
 pub mod BootUndone
+pub mod BootWatchRows
 pub mod BootWatches
+pub mod BootedRows
 pub mod CallStays
 pub mod CallsRun
 pub mod CallsSettle
@@ -58,8 +63,10 @@ pub mod EnteredSessions
 pub mod Found
 pub mod HeldLemmas
 pub mod HeldModules
+pub mod KeptCases
 pub mod KeptLemmas
 pub mod KeptLess
+pub mod KeptRows
 pub mod KeptWeights
 pub mod Lasting
 pub mod LatestLemmas
@@ -87,6 +94,8 @@ pub mod OrderedAfter
 pub mod OutdatedRollbacks
 pub mod OwnTargets
 pub mod PlainLemmas
+pub mod QuietBoots
+pub mod RecentMoments
 pub mod RefusedLemmas
 pub mod ReportRuns
 pub mod Restored
