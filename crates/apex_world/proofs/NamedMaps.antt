@@ -71,12 +71,8 @@ module _ {X : Type 0} where
   with_if true t a q m e = get-remove nat_list_cmp_total t a q
   with_if false t a q m e = get-insert nat_list_cmp_total t a m q
 
-<<<<<<< HEAD
   -- what a first name stands for then
-  get_with : (t : Table X) (a q : List ℕ) (m : NameMap X)
-=======
   pub get_with : (t : Table X) (a q : List ℕ) (m : NameMap X)
->>>>>>> 54014b4523a77bcd304cf3db2aabc61ed66e0e22
       → fin.get (with_part t a m) q ≡ cond (eq_by_cmp (slice_cmp nat_cmp) q a) (whole m) (fin.get t q)
   get_with t a q m = with_if (eqb (fin.len m) 0) t a q m refl
 

@@ -90,12 +90,8 @@ pub record IsPlaced (id : SessionId) (k : ℕ) (ps : List Package) (q : Part) : 
   pub there : slice_get (parts_from id k ps) place ≡ Some q
   pub submitted : submitted_by (submissions_from id k ps) id number ≡ Some given.content
 
-<<<<<<< HEAD
 -- the first module is found
-first_found : (id : SessionId) (k : ℕ) (p : Package) (ps : List Package)
-=======
 pub first_found : (id : SessionId) (k : ℕ) (p : Package) (ps : List Package)
->>>>>>> 15a874c2ad56b48fb8879dc20d39f9cd6b07f826
     → submitted_by (submissions_from id k (p ∷ ps)) id k ≡ Some p.content
 first_found id k p ps =
     ap (λ b. option_map (λ (s : Submission). s.content)
@@ -103,12 +99,8 @@ first_found id k p ps =
     (find (λ s. eqb s.session.0 id.0 && eqb s.part k) (submissions_from id (k + 1) ps))))
     (and_from (eqb id.0 id.0) (eqb k k) (eq-eqb id.0 id.0 refl) (eq-eqb k k refl))
 
-<<<<<<< HEAD
 -- a later module is found after the first
-later_found : (id : SessionId) (k n : ℕ) (p : Package) (ps : List Package) → k ≢ n
-=======
 pub later_found : (id : SessionId) (k n : ℕ) (p : Package) (ps : List Package) → k ≢ n
->>>>>>> 15a874c2ad56b48fb8879dc20d39f9cd6b07f826
     → submitted_by (submissions_from id k (p ∷ ps)) id n ≡ submitted_by (submissions_from id (k + 1) ps) id n
 later_found id k n p ps d =
     ap (λ b. option_map (λ (s : Submission). s.content)

@@ -45,8 +45,13 @@ given_weight ts id k (p ∷ ps) all =
     let first : target_weight ts s ≡ module_weight p.content =
     ap (λ (b : Bool). cond b (module_weight p.content) 0) (in_target ts id k p.version (all _ (inl refl))) in
     let rest = given_weight ts id (k + 1) ps (λ q h. all q (inr h)) in
-    omega (arith, first, rest, sum_by-cons (target_weight ts) s (submissions_from id (k + 1) ps),
-    sum_by-cons (λ (p : Package). module_weight p.content) p ps)
+    omega (
+      arith,
+      first,
+      rest,
+      sum_by-cons (target_weight ts) s (submissions_from id (k + 1) ps),
+      sum_by-cons (λ (p : Package). module_weight p.content) p ps,
+    )
 
 -- tests that say the same
 tests_same : (b c : Bool) → (b ≡ true → c ≡ true) → (c ≡ true → b ≡ true) → b ≡ c
