@@ -1,6 +1,8 @@
 -- Worlds that are alike stay so where their sessions change alike, and nothing is kept that wasn't. Callers want
 -- `alike_after`.
-use Rattle.std.proofs.Common.{◌≡◌, ◌⊎◌, ℕ, true, List, sym, subst, refl, inl, inr}
+use Rattle.std.proofs.Common.{◌≡◌, ◌⊎◌, ℕ, true, List, sym, ap, subst, ◌∙◌, refl, inl, inr}
+use Rattle.std.specs.List.{list_any}
+use Rattle.std.specs.Str.{bytes_eq}
 use Rattle.std.proofs.lemmas.Bool.{and_from, eq-eqb}
 use Rattle.apex_base.specs.declared.numbers.SessionId.{SessionId}
 use Rattle.apex_base.specs.declared.records.Part.{Part}
@@ -39,10 +41,33 @@ abbrev pub NothingNew : List Record → List Record → Type 0
 NothingNew ss ss' = (s : Record) (p : Part) → In s ss' → IsFresh ss s → In p s.parts
     → (p.target ≡ targets.Preinstalled) ⊎ In p.target (kept ss)
 
+-- what nothing changes of a session, with its activation boot
+pub record IsLike (r s : Record) : Type 0 where
+  pub id : s.id ≡ r.id
+  pub kind : s.kind ≡ r.kind
+  pub parts : s.parts ≡ r.parts
+  pub activation : s.activation ≡ r.activation
+
+-- a session that keeps its past has kept it before
+abbrev pub PastStays : List Record → List Record → Type 0
+PastStays ss ss' = (s : Record) → In s ss' → KeepsPast ss' s → (r : Record) × In r ss × KeepsPast ss r × IsLike r s
+
 -- what a session keeps of the past, one has kept before
 abbrev pub NoPastNew : List Record → List Record → Type 0
 NoPastNew ss ss' = (s : Record) (name : List ℕ) → In s ss' → KeepsPast ss' s → names name s ≡ true
     → (r : Record) × In r ss × KeepsPast ss r × (names name r ≡ true) × (r.activation ≡ s.activation)
+
+-- a session is like itself
+pub like_self : (r : Record) → IsLike r r
+like_self r = record { id = refl; kind = refl; parts = refl; activation = refl }
+
+pub names_same : (r s : Record) (name : List ℕ) → IsLike r s → names name s ≡ names name r
+names_same r s name l = ap (λ ps. list_any (λ p. bytes_eq p.name name) ps) l.parts
+
+pub no_past_new : (ss ss' : List Record) → PastStays ss ss' → NoPastNew ss ss'
+no_past_new ss ss' past s name h k n =
+    let (r, i, j, l) = past s h k in
+    (r, i, j, sym (names_same r s name l) ∙ n, sym l.activation)
 
 module _ (w v : World) (a : AreAlikeInParts w v) (ss' : List Record) (law : AreOrdered w.sessions)
     (law' : AreOrdered ss') (f : Carries w.sessions ss') where

@@ -1,5 +1,5 @@
 -- What a commit makes of sessions, what they keep of the past after it, and which commits can follow. Callers want
--- `CanCommit`, `carries_commit`, `nothing_commit`, `past_commit`, `ordered_commit` and `can_after`.
+-- `CanCommit`, `carries_commit`, `nothing_commit`, `past_stays`, `past_commit`, `ordered_commit` and `can_after`.
 use Rattle.std.proofs.Common.{◌≡◌, ◌≢◌, ◌⊎◌, ℕ, true, false, eqb, ◌&&◌, List, map, Option, Some, None, sym}
 use Rattle.std.proofs.Common.{ap, subst, ◌∙◌, refl, inl, inr, arith}
 use Rattle.std.specs.Prelude.{not}
@@ -23,7 +23,7 @@ use Rattle.apex_base.proofs.MemberLemmas.{in_map, in_map_back}
 use Rattle.apex_base.proofs.SessionLemmas.{with_any, with_others, of_found, of_in}
 use Rattle.apex_world.specs.Rows.{undoes, is_staged_session, may_happen}
 use Rattle.apex_world.specs.StoredAlike.{KeepsPast}
-use Rattle.apex_world.proofs.AlikeAfter.{NothingNew, NoPastNew}
+use Rattle.apex_world.proofs.AlikeAfter.{NothingNew, NoPastNew, PastStays, no_past_new}
 use Rattle.apex_world.proofs.KeptLemmas.{AreOrdered, Backs, keeps}
 use Rattle.apex_world.proofs.KeptLess.{IsFresh, Carries}
 use Rattle.apex_world.proofs.OpenedSessions.{one_session}
@@ -165,20 +165,16 @@ module _ (ss : List Record) (law : AreOrdered ss) (x : Record) (can : CanCommit 
   new_nothing (inl k) = absurd (false≢true k)
   new_nothing (inr k) = absurd (false≢true k)
 
-  -- and nothing is kept of the past that was not
-  pub past_commit : NoPastNew ss after
-  past_commit s name i k n =
+  -- and what keeps its past kept it before
+  pub past_stays : PastStays ss after
+  past_stays s i k =
       elim (from s i) [
         | inl e ↦ absurd (new_nothing (subst (KeepsPast after) e k))
-        | inr (r, j, way) ↦
-            let l = ways_like x r s way in (
-              r,
-              j,
-              keeps_before r s j way k,
-              ap (λ (ps : List Part). list_any (λ p. bytes_eq p.name name) ps) (sym l.parts) ∙ n,
-              sym l.activation,
-            )
+        | inr (r, j, way) ↦ (r, j, keeps_before r s j way k, ways_like x r s way)
       ]
+
+  pub past_commit : NoPastNew ss after
+  past_commit = no_past_new ss after past_stays
 
   -- another session's rollback can still be committed
   success_waits : (s : State) → is_success s ≡ true → is_waiting s ≡ false

@@ -14,10 +14,10 @@ use Rattle.apex_base.specs.Held.{is_undoable, is_success, is_available}
 use Rattle.apex_base.specs.Rollbacks.{not_enabled}
 use Rattle.apex_base.specs.Sessions.{shares}
 use Rattle.apex_world.specs.Rows.{is_staged, may_happen}
+use Rattle.apex_world.proofs.AlikeAfter.{IsLike}
 use Rattle.apex_world.proofs.KeptLess.{Goes}
 use Rattle.apex_world.proofs.MovesAlike.{goes_self}
 use Rattle.apex_world.proofs.OrderedAfter.{IsUnder, under_self}
-use Rattle.apex_world.proofs.SuccessAlike.{IsLike}
 
 -- the commit of x leaves a session, or marks x, or fails one that waits
 pub data Ways (x r s : Record) : Type 0 where

@@ -28,7 +28,7 @@ use Rattle.apex_world.specs.StoredAlike.{KeepsPast, AreAlikeInParts}
 use Rattle.apex_world.specs.Submit.{id_taken, submissions_from, rollback_of, print_of, new_session, entered}
 use Rattle.apex_world.specs.Submit.{store_full}
 use Rattle.apex_world.specs.World.{World}
-use Rattle.apex_world.proofs.AlikeAfter.{NoPastNew, target_in, in_target, same_past}
+use Rattle.apex_world.proofs.AlikeAfter.{PastStays, like_self, no_past_new, target_in, in_target, same_past}
 use Rattle.apex_world.proofs.AlikeLemmas.{other}
 use Rattle.apex_world.proofs.KeptLemmas.{AreOrdered, ordered}
 use Rattle.apex_world.proofs.KeptLess.{IsFresh, Carries, Nothing, Before, New, kept_less}
@@ -39,11 +39,7 @@ use Rattle.apex_world.proofs.OpenedModules.{HaveSameFiles, weight_same}
 use Rattle.apex_world.proofs.OrderedAfter.{ordered_new}
 use Rattle.apex_world.proofs.WorldRows.{same_id}
 use Rattle.apex_world.proofs.EnteredModules.{submitted_more, weight_more, target_session, own_target, none_if}
-use Rattle.apex_world.proofs.StagedSome.{staged_some}
-
-unavailable : (rollback : Bool) → is_available (rollback_of rollback) ≡ false
-unavailable true = refl
-unavailable false = refl
+use Rattle.apex_world.proofs.EnteredSessions.{unused, carries, ordered_after, past_stays}
 
 module _ (w v : World) (a : AreAlikeInParts w v) (law : Lawful w) (law' : Lawful v) (id : SessionId)
     (children : List SessionId) (rollback : Bool) (ps : List Package)
@@ -52,7 +48,7 @@ module _ (w v : World) (a : AreAlikeInParts w v) (law : Lawful w) (law' : Lawful
   s = new_session id children rollback ps (print_of w.image)
 
   abbrev after : List Record
-  after = with_session s w.sessions
+  after = with_session (new_session id children rollback ps (print_of w.image)) w.sessions
 
   abbrev z : World
   z = other w v a
@@ -60,31 +56,9 @@ module _ (w v : World) (a : AreAlikeInParts w v) (law : Lawful w) (law' : Lawful
   abbrev added : List Submission
   added = submissions_from id 0 ps
 
-  is_new : IsNew w.sessions s
-  is_new = submit_new w.sessions s free
-
-  unused : (r : Record) → In r w.sessions → r.id.0 ≢ id.0
-  unused r h = new_id w.sessions s r is_new h
-
-  fresh : IsFresh w.sessions s
-  fresh = record { unused = unused; idle = refl; unavailable = unavailable rollback }
-
-  carries : Carries w.sessions after
-  carries = record {
-    back = λ r i. elim (with_any s w.sessions r i) [
-      | inl e ↦ inr (subst (IsFresh w.sessions) (sym e) fresh)
-      | inr j ↦ inl (r, j, goes_self r)
-    ];
-    forth = λ r i. (r, with_others s w.sessions r i (unused r i), goes_self r);
-  }
-
-  ordered_after : AreOrdered after
-  ordered_after =
-      ordered_new s w.sessions (ordered w law) (record { activation = refl; stands = refl; undoable = refl })
-
   none_of : (y : World) → Lawful y → w.sessions ≡ y.sessions → (part : ℕ) → submitted_by y.modules id part ≡ None
   none_of y lawful same part = none_if y lawful id
-      (subst (λ (ss : List Record). (r : Record) → In r ss → r.id.0 ≢ id.0) same unused) part
+      (subst (λ (ss : List Record). (r : Record) → In r ss → r.id.0 ≢ id.0) same (unused w law id children rollback ps free)) part
       (submitted_by y.modules id part) refl
 
   -- a new target is of the new session, of which neither world has a module
@@ -106,55 +80,11 @@ module _ (w v : World) (a : AreAlikeInParts w v) (law : Lawful w) (law' : Lawful
   same_files session part k =
       let (version, h) = target_in (kept after) session part k in
       let t = targets.Module session part version in
-      elim (kept_less w.sessions after (ordered w law) ordered_after carries t h) [
+      elim (kept_less w.sessions after (ordered w law)
+      (ordered_after w law id children rollback ps free) (carries w law id children rollback ps free) t h) [
         | Nothing e ↦ absurd (cc)
         | Before i ↦ a.stored.modules session part (in_target (kept w.sessions) session part version i)
         | New r p i f j e ↦ own_none session part version r p i f j e
-      ]
-
-  -- What a session keeps of the past
-
-  staged_before : (x : SessionId) → is_staged_session (session_of after x) ≡ true
-      → is_staged_session (session_of w.sessions x) ≡ true
-  staged_before x e =
-      let (y, f, g) = staged_some (session_of after x) e in
-      let (i, yid) = of_found after x y f in
-      elim (with_any s w.sessions y i) [
-        | inl h ↦ absurd (false≢true (ap (λ (y : Record). is_staged y.state) (sym h) ∙ g))
-        | inr j ↦ ap is_staged_session (ap (session_of w.sessions) (sym (same_id y.id x yid))
-            ∙ of_in w.sessions y law.ids.ascend j) ∙ g
-      ]
-
-  may_before : (x : SessionId) (o : Option RollbackState) → may_happen after x o ≡ true
-      → may_happen w.sessions x o ≡ true
-  may_before x None m = absurd (cc)
-  may_before x (Some Enabling) m = refl
-  may_before x (Some Available) m = refl
-  may_before x (Some Committed) m = staged_before (rollback_id x) m
-  may_before x (Some Deleted) m = absurd (cc)
-
-  keeps_before : (r : Record) → KeepsPast after r → KeepsPast w.sessions r
-  keeps_before r (inl k) =
-      let (first, m) =
-      and_parts (rolls_back r.kind && not (eqb r.activation 0)) (may_happen after r.id r.rollback) k in
-      inl (and_from (rolls_back r.kind && not (eqb r.activation 0)) (may_happen w.sessions r.id r.rollback) first
-      (may_before r.id r.rollback m))
-  keeps_before r (inr k) = inr k
-
-  never : (b : Bool) → (b && false) ≡ true → ⊥
-  never true e = false≢true e
-  never false e = false≢true e
-
-  new_nothing : KeepsPast after s → ⊥
-  new_nothing (inl k) = never (rolls_back s.kind) (and_parts (rolls_back s.kind && false)
-      (may_happen after s.id s.rollback) k).0
-  new_nothing (inr k) = never _ k
-
-  no_past : NoPastNew w.sessions after
-  no_past r name i k n =
-      elim (with_any s w.sessions r i) [
-        | inl e ↦ absurd (new_nothing (subst (KeepsPast after) e k))
-        | inr j ↦ (r, j, keeps_before r k, n, refl)
       ]
 
   -- the worlds with the new session are alike in parts
@@ -164,7 +94,9 @@ module _ (w v : World) (a : AreAlikeInParts w v) (law : Lawful w) (law' : Lawful
       sessions = refl;
       modules = λ session part k. submitted_more w.modules v.modules added session part (same_files session part k);
       contents = refl;
-      past = same_past w v a after (ordered w law) ordered_after carries no_past;
+      past = same_past w v a after (ordered w law) (ordered_after w law id children rollback ps free)
+          (carries w law id children rollback ps free)
+          (no_past_new w.sessions after (past_stays w law id children rollback ps free));
       boots = a.stored.boots;
       moments = a.stored.moments;
       watches = refl;

@@ -23,7 +23,7 @@ use Rattle.apex_world.specs.Lawful.{Lawful, never_activated, is_verified}
 use Rattle.apex_world.specs.Rows.{is_staged, is_staged_session, may_happen, has_snapshot}
 use Rattle.apex_world.specs.StoredAlike.{KeepsPast, AreAlikeInParts, AreSteppedAlike}
 use Rattle.apex_world.specs.World.{World}
-use Rattle.apex_world.proofs.AlikeAfter.{NothingNew, NoPastNew, alike_after}
+use Rattle.apex_world.proofs.AlikeAfter.{NothingNew, PastStays, like_self, no_past_new, alike_after}
 use Rattle.apex_world.proofs.AlikeLemmas.{other, beside, unchanged, refused_alike}
 use Rattle.apex_world.proofs.KeptLemmas.{stands_as, ordered}
 use Rattle.apex_world.proofs.KeptLess.{Goes, Carries}
@@ -42,7 +42,7 @@ pub record IsEarlyMove (s t : State) : Type 0 where
   pub unfinished : is_unfinished s ≡ true
   pub success : is_success s ≡ false
 
-ready_early : (s t : State) → moved s step_of.Ready ≡ Some t → IsEarlyMove s t
+pub ready_early : (s t : State) → moved s step_of.Ready ≡ Some t → IsEarlyMove s t
 ready_early state.Verified t e =
     let same : state.Staged ≡ t = cc in
     subst (IsEarlyMove state.Verified) same
@@ -70,7 +70,7 @@ aborted s t same n u f =
       success = f;
     })
 
-abort_early : (s t : State) → moved s step_of.Abort ≡ Some t → IsEarlyMove s t
+pub abort_early : (s t : State) → moved s step_of.Abort ≡ Some t → IsEarlyMove s t
 abort_early state.Verified t e = let same : state.Aborted ≡ t = cc in aborted state.Verified t same refl refl refl
 abort_early state.Staged t e = let same : state.Aborted ≡ t = cc in aborted state.Staged t same refl refl refl
 abort_early state.Activated t e = absurd (cc)
@@ -172,8 +172,9 @@ module _ (w : World) (law : Lawful w) (r r' : Record) (h : In r w.sessions) (sam
       absurd (cc (some, eq-eqb r'.activation 0 zero))
   moved_nothing (inr k) = absurd (cc (early.undoable, (and_parts _ (is_undoable r'.state) k).1))
 
-  no_past : NoPastNew w.sessions after
-  no_past s name i k n =
+  -- what keeps its past kept it before
+  pub past_stays : PastStays w.sessions after
+  past_stays s i k =
       elim (with_any r' w.sessions s i) [
         | inl e ↦ absurd (moved_nothing (subst (λ (x : Record). KeepsPast after x) e k))
         | inr j ↦ (
@@ -183,14 +184,13 @@ module _ (w : World) (law : Lawful w) (r r' : Record) (h : In r w.sessions) (sam
             | inl f ↦ inl (snapshot_before s j f)
             | inr f ↦ inr f
           ],
-          n,
-          refl,
+          like_self s,
         )
       ]
 
 -- The calls
 
-abort_available : (o : Option RollbackState) → is_available (rollback_after step_of.Abort o) ≡ true
+pub abort_available : (o : Option RollbackState) → is_available (rollback_after step_of.Abort o) ≡ true
     → is_available o ≡ true
 abort_available None e = absurd (cc)
 abort_available (Some Enabling) e = absurd (cc)
@@ -198,13 +198,12 @@ abort_available (Some Available) e = refl
 abort_available (Some Committed) e = absurd (cc)
 abort_available (Some Deleted) e = absurd (cc)
 
-module _ (w v : World) (a : AreAlikeInParts w v) (law : Lawful w) (m : Move)
-    (early : (s t : State) → moved s m ≡ Some t → IsEarlyMove s t)
+module _ (m : Move)
     (available : (o : Option RollbackState) → is_available (rollback_after m o) ≡ true → is_available o ≡ true) where
-  abbrev moved_to : Record → State → Record
+  abbrev pub moved_to : Record → State → Record
   moved_to r t = record r { state = t; rollback = rollback_after m r.rollback }
 
-  goes_early : (r : Record) (t : State) → IsEarlyMove r.state t → Goes r (moved_to r t)
+  pub goes_early : (r : Record) (t : State) → IsEarlyMove r.state t → Goes r (moved_to r t)
   goes_early r t e = record {
     parts = refl;
     unfinished = λ u. e.unfinished;
@@ -213,7 +212,7 @@ module _ (w v : World) (a : AreAlikeInParts w v) (law : Lawful w) (m : Move)
     available = λ s. (or_right (is_undoable r.state) (is_available r.rollback) (available r.rollback s), refl);
   }
 
-  under_early : (r : Record) (t : State) → IsEarlyMove r.state t → IsUnder r (moved_to r t)
+  pub under_early : (r : Record) (t : State) → IsEarlyMove r.state t → IsUnder r (moved_to r t)
   under_early r t e = record {
     id = refl;
     parts = refl;
@@ -222,19 +221,22 @@ module _ (w v : World) (a : AreAlikeInParts w v) (law : Lawful w) (m : Move)
     undoable = λ s. absurd (false≢true (sym e.undoable ∙ s));
   }
 
+module _ (w v : World) (a : AreAlikeInParts w v) (law : Lawful w) (m : Move)
+    (early : (s t : State) → moved s m ≡ Some t → IsEarlyMove s t)
+    (available : (o : Option RollbackState) → is_available (rollback_after m o) ≡ true → is_available o ≡ true) where
   to_alike : (r : Record) (o : Option State) → In r w.sessions → moved r.state m ≡ o
       → AreSteppedAlike (move_to w w.clock r m o) (move_to (other w v a) w.clock r m o)
   to_alike r None h e = refused_alike w (other w v a) _ (unchanged w v a)
   to_alike r (Some t) h e =
       let move = early r.state t e in
-      let r' = moved_to r t in
+      let r' = moved_to m available r t in
       record {
         reply = refl;
         world = alike_after w v a (with_session r' w.sessions) (ordered w law)
-            (ordered_one r r' w.sessions (ordered w law) h (under_early r t move))
-            (carries_one w.sessions law.ids.ascend r r' h refl (goes_early r t move))
+            (ordered_one r r' w.sessions (ordered w law) h (under_early m available r t move))
+            (carries_one w.sessions law.ids.ascend r r' h refl (goes_early m available r t move))
             (nothing_new w.sessions law.ids.ascend r r' h refl)
-            (no_past w law r r' h refl refl move) w.clock;
+            (no_past_new w.sessions _ (past_stays w law r r' h refl refl move)) w.clock;
       }
 
   found_alike : (id : SessionId) (o : Option Record) → session_of w.sessions id ≡ o

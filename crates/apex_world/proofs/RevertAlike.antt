@@ -26,7 +26,7 @@ use Rattle.apex_world.specs.Stepped.{Stepped, refused, done}
 use Rattle.apex_base.specs.declared.refusal.Refusal.TheVariants.{NothingToRevert}
 use Rattle.apex_world.specs.StoredAlike.{KeepsPast, AreAlikeInParts, AreSteppedAlike}
 use Rattle.apex_world.specs.World.{World}
-use Rattle.apex_world.proofs.AlikeAfter.{NothingNew, NoPastNew, alike_after}
+use Rattle.apex_world.proofs.AlikeAfter.{IsLike, NothingNew, PastStays, no_past_new, alike_after}
 use Rattle.apex_world.proofs.AlikeLemmas.{other, beside, unchanged, refused_alike}
 use Rattle.apex_world.proofs.KeptLemmas.{ordered}
 use Rattle.apex_world.proofs.KeptLess.{Goes, Carries}
@@ -76,7 +76,7 @@ goes_reverting r =
       })
     ]
 
-under_reverting : (r : Record) → IsUnder r (reverting r)
+pub under_reverting : (r : Record) → IsUnder r (reverting r)
 under_reverting r =
     elim (revert_if r r.state refl) [
       | inl e ↦ subst (IsUnder r) (sym e) (under_self r)
@@ -107,7 +107,7 @@ module _ (w : World) (law : Lawful w) where
   abbrev after : List Record
   after = map reverting w.sessions
 
-  carries_all : Carries w.sessions after
+  pub carries_all : Carries w.sessions after
   carries_all = record {
     back = λ s i.
         let (r, j, e) = in_map_back reverting s w.sessions i in
@@ -115,7 +115,7 @@ module _ (w : World) (law : Lawful w) where
     forth = λ r i. (reverting r, in_map reverting r w.sessions i, goes_reverting r);
   }
 
-  nothing_new : NothingNew w.sessions after
+  pub nothing_new : NothingNew w.sessions after
   nothing_new s p i fresh j =
       let (r, k, e) = in_map_back reverting s w.sessions i in
       absurd (fresh.unused r k (ap (λ (id : SessionId). id.0) (sym (same_but r).id) ∙ ap (λ (s : Record). s.id.0) e))
@@ -160,19 +160,15 @@ module _ (w : World) (law : Lawful w) where
       inr (and_from (undoes r.kind) (is_undoable r.state) (ap undoes (sym (same_but r).kind)
       ∙ kind) (undoable_back r u))
 
-  names_same : (r s : Record) (name : List ℕ) → reverting r ≡ s → names name s ≡ true → names name r ≡ true
-  names_same r s name e n =
-      ap (λ (ps : List Part). list_any (λ p. bytes_eq p.name name) ps) (sym (same_but r).parts)
-      ∙ ap (names name) e ∙ n
-
-  no_past : NoPastNew w.sessions after
-  no_past s name i k n =
-      let (r, j, e) = in_map_back reverting s w.sessions i in (
+  -- what keeps its past kept it before
+  pub past_stays : PastStays w.sessions after
+  past_stays s i k =
+      let (r, j, e) = in_map_back reverting s w.sessions i in
+      let b = same_but r in (
         r,
         j,
         keeps_before r (subst (KeepsPast after) (sym e) k),
-        names_same r s name e n,
-        sym (same_but r).activation ∙ ap (λ (s : Record). s.activation) e,
+        subst (IsLike r) e (record { id = b.id; kind = b.kind; parts = b.parts; activation = b.activation }),
       )
 
 module _ (w v : World) (a : AreAlikeInParts w v) (law : Lawful w) where
@@ -185,7 +181,7 @@ module _ (w v : World) (a : AreAlikeInParts w v) (law : Lawful w) where
     reply = refl;
     world = alike_after w v a (map reverting w.sessions) (ordered w law)
         (ordered_map reverting w.sessions (ordered w law) under_reverting) (carries_all w law)
-        (nothing_new w law) (no_past w law) w.clock;
+        (nothing_new w law) (no_past_new w.sessions _ (past_stays w law)) w.clock;
   }
   revert_by false = refused_alike w (other w v a) NothingToRevert (unchanged w v a)
 

@@ -25,7 +25,7 @@ use Rattle.apex_world.specs.Lawful.{Lawful}
 use Rattle.apex_world.specs.Rows.{undoes, is_staged, is_staged_session, may_happen, has_snapshot}
 use Rattle.apex_world.specs.StoredAlike.{KeepsPast, AreAlikeInParts, AreSteppedAlike}
 use Rattle.apex_world.specs.World.{World}
-use Rattle.apex_world.proofs.AlikeAfter.{NothingNew, NoPastNew, alike_after}
+use Rattle.apex_world.proofs.AlikeAfter.{IsLike, NothingNew, PastStays, no_past_new, alike_after}
 use Rattle.apex_world.proofs.AlikeLemmas.{other, beside, unchanged, with_tables, refused_alike}
 use Rattle.apex_world.proofs.KeptLemmas.{AreOrdered, stands_as, ordered}
 use Rattle.apex_world.proofs.KeptLess.{Goes, Carries}
@@ -35,12 +35,6 @@ use Rattle.apex_world.proofs.StagedSome.{staged_some}
 use Rattle.apex_world.proofs.WorldRows.{same_id}
 
 -- What a success leaves of a session
-
-pub record IsLike (r s : Record) : Type 0 where
-  pub id : s.id ≡ r.id
-  pub kind : s.kind ≡ r.kind
-  pub parts : s.parts ≡ r.parts
-  pub activation : s.activation ≡ r.activation
 
 succeeding_like : (b : Bool) (clock : ℕ) (r : Record) → IsLike r
     (cond b (record r { state = state.Success; rollback = Some Available; moment = clock })
@@ -175,7 +169,7 @@ module _ (w : World) (law : Lawful w) (clock : ℕ) (r : Record) (h : In r w.ses
             inr (q, k, subst (IsOutdated q) e (outdated r q))
       ]
 
-  ordered_success : AreOrdered after
+  pub ordered_success : AreOrdered after
   ordered_success =
       ordered_after w.sessions after (ordered w law)
       (ascend_with r' others (ascend_map (outdated_by r) w.sessions (λ q. (outdated r q).like.id) law.ids.ascend))
@@ -184,7 +178,7 @@ module _ (w : World) (law : Lawful w) (clock : ℕ) (r : Record) (h : In r w.ses
         | inr (q, k, o) ↦ inl (q, k, under_outdated q s o)
       ])
 
-  carries_all : Carries w.sessions after
+  pub carries_all : Carries w.sessions after
   carries_all = record {
     back = λ s i. elim (from s i) [
       | inl e ↦ inl (r, h, subst (Goes r) (sym e) goes)
@@ -206,7 +200,7 @@ module _ (w : World) (law : Lawful w) (clock : ℕ) (r : Record) (h : In r w.ses
     ];
   }
 
-  nothing_new : NothingNew w.sessions after
+  pub nothing_new : NothingNew w.sessions after
   nothing_new s p i fresh j =
       elim (from s i) [
         | inl e ↦ absurd (fresh.unused r h (sym (id_of r r' like) ∙ ap (λ (x : Record). x.id.0) (sym e)))
@@ -270,9 +264,6 @@ module _ (w : World) (law : Lawful w) (clock : ℕ) (r : Record) (h : In r w.ses
       (ap (λ n. rolls_back q.kind && not (eqb n 0)) (sym l.activation)
       ∙ ap (λ k. rolls_back k && not (eqb s.activation 0)) (sym l.kind) ∙ first) (may m)
 
-  names_same : (q s : Record) (name : List ℕ) → IsLike q s → names name s ≡ true → names name q ≡ true
-  names_same q s name l n = ap (λ ps. list_any (λ p. bytes_eq p.name name) ps) (sym l.parts) ∙ n
-
   keeps_outdated : (q s : Record) → IsOutdated q s → KeepsPast after s → KeepsPast w.sessions q
   keeps_outdated q s o (inl k) = inl (snapshot_before q s o.like (outdated_before q s o) k)
   keeps_outdated q s o (inr k) =
@@ -287,22 +278,17 @@ module _ (w : World) (law : Lawful w) (clock : ℕ) (r : Record) (h : In r w.ses
       let (kind, u) = and_parts (undoes r'.kind) (is_undoable r'.state) k in
       absurd (false≢true (ap is_undoable (sym is_now) ∙ u))
 
-  no_past : NoPastNew w.sessions after
-  no_past s name i k n =
+  -- what keeps its past kept it before
+  pub past_stays : PastStays w.sessions after
+  past_stays s i k =
       elim (from s i) [
-        | inl e ↦ (
-          r,
-          h,
-          keeps_now (subst (KeepsPast after) e k),
-          names_same r r' name like (ap (names name) (sym e) ∙ n),
-          sym like.activation ∙ ap (λ (s : Record). s.activation) (sym e),
-        )
-        | inr (q, j, o) ↦ (q, j, keeps_outdated q s o k, names_same q s name o.like n, sym o.like.activation)
+        | inl e ↦ (r, h, keeps_now (subst (KeepsPast after) e k), subst (IsLike r) (sym e) like)
+        | inr (q, j, o) ↦ (q, j, keeps_outdated q s o k, o.like)
       ]
 
 -- The call
 
-success_from : (s t : State) → moved s step_of.Success ≡ Some t → is_success s ≡ false → s ≡ state.Activated
+pub success_from : (s t : State) → moved s step_of.Success ≡ Some t → is_success s ≡ false → s ≡ state.Activated
 success_from state.Verified t e f = absurd (cc)
 success_from state.Staged t e f = absurd (cc)
 success_from state.Activated t e f = refl
@@ -323,7 +309,7 @@ module _ (w v : World) (a : AreAlikeInParts w v) (law : Lawful w) (clock : ℕ) 
       alike_after w v a (after_success clock r w.sessions) (ordered w law)
       (ordered_success w law clock r h (e refl))
       (carries_all w law clock r h (e refl)) (nothing_new w law clock r h (e refl))
-      (no_past w law clock r h (e refl)) clock
+      (no_past_new w.sessions _ (past_stays w law clock r h (e refl))) clock
 
   to_alike : (r : Record) (o : Option State) → In r w.sessions → moved r.state step_of.Success ≡ o
       → AreSteppedAlike (success_to w clock r o) (success_to (other w v a) clock r o)

@@ -1,19 +1,24 @@
 -- What becomes of rows where a call changes sessions alone: docs/rows.md, "After a call".
-use Rattle.std.specs.Prelude.{◌≡◌, ℕ, Bool, true, false, List, Option, Some, None, if◌then◌else◌}
+use Rattle.std.specs.Prelude.{◌≡◌, ℕ, ◌+◌, ◌==◌, Bool, true, false, List, slice_get, Option, Some, None, option_and_then, Ok, if◌then◌else◌}
+use Rattle.std.specs.List.{sum_by}
 use Rattle.std.specs.Option.{option_map}
 use Rattle.std.specs.FinMap as fin
 use Rattle.apex_base.specs.declared.numbers.SessionId.{SessionId}
 use Rattle.apex_base.specs.declared.records.Record.{Record}
 use Rattle.apex_base.specs.Held.{kept, is_target}
 use Rattle.apex_base.specs.Keys.{Key, Boots, RecordOf, ActiveOf, BackupOf, FileOf, DataOf, SnapshotOf, PreRestoreOf, WatchOf, IsKey, RowMap, key_text}
+use Rattle.apex_base.specs.Modules.{FileMap, module_weight}
 use Rattle.apex_base.specs.Sessions.{session_of}
 use Rattle.apex_base.specs.Settled.{active_of, backup_of}
 use Rattle.apex_base.specs.Spelling.{record_text}
 use Rattle.apex_world.specs.declared.calls.Call.{Call}
 use Rattle.apex_world.specs.declared.calls.Call.TheVariants as calls
+use Rattle.apex_world.specs.declared.modules.Package.{Package}
 use Rattle.apex_world.specs.Lawful.{Lawful}
+use Rattle.apex_world.specs.Limits.{kind_units, units, weight}
 use Rattle.apex_world.specs.Rows.{rows, row_at, has_snapshot, has_pre_restore}
 use Rattle.apex_world.specs.Step.{step}
+use Rattle.apex_world.specs.Submit.{admitted, entered, kind_of}
 use Rattle.apex_world.specs.World.{World}
 
 -- the row stays where it is, if it is still asked for
@@ -58,3 +63,36 @@ abbrev pub CallsSettleRows : Type 0
 CallsSettleRows =
     (w : World) → Lawful w → (call : Call) → changes_sessions call ≡ true → Lawful (step w call).world → (k : Key) → IsKey k
     → row_at (step w call).world k ≡ settled_row (rows w) (step w call).world.sessions k
+
+-- A submit: the new session's modules are kept, and all else is what the sessions settle
+
+-- the file of a part at a path
+abbrev pub package_file : List Package → ℕ → List ℕ → Option (List ℕ)
+package_file packages part path = option_and_then (λ p. fin.get p.content path) (slice_get packages part)
+
+-- the row at a key, by the rows before, the sessions afterwards, and the packages of the new session
+abbrev pub put_row : RowMap → List Record → SessionId → List Package → Key → Option (List ℕ)
+put_row rows sessions id packages (FileOf session part path) =
+    if session.0 == id.0 then package_file packages part path else settled_row rows sessions (FileOf session part path)
+put_row rows sessions id packages k = settled_row rows sessions k
+
+-- after a submit that is admitted, the rows are these
+abbrev pub SubmitsPutRows : Type 0
+SubmitsPutRows =
+    (w : World) → Lawful w → (id : SessionId) (children : List SessionId) (rollback : Bool) (parts : List FileMap) (packages : List Package)
+    → admitted w id children parts ≡ Ok packages → Lawful (entered w id children rollback packages) → (k : Key) → IsKey k
+    → row_at (entered w id children rollback packages) k ≡ put_row (rows w) (entered w id children rollback packages).sessions id packages k
+
+-- it adds the weight of its modules
+abbrev pub SubmitsAddWeight : Type 0
+SubmitsAddWeight =
+    (w : World) → Lawful w → (id : SessionId) (children : List SessionId) (rollback : Bool) (parts : List FileMap) (packages : List Package)
+    → admitted w id children parts ≡ Ok packages
+    → weight (entered w id children rollback packages) ≡ weight w + sum_by (λ p. module_weight p.content) packages
+
+-- and the units of its kind
+abbrev pub SubmitsAddUnits : Type 0
+SubmitsAddUnits =
+    (w : World) → Lawful w → (id : SessionId) (children : List SessionId) (rollback : Bool) (parts : List FileMap) (packages : List Package)
+    → admitted w id children parts ≡ Ok packages
+    → units (entered w id children rollback packages) ≡ units w + kind_units (kind_of rollback)

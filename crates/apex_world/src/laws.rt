@@ -23,6 +23,7 @@ mod invariance_of_boots;
 mod invariance_of_calls;
 mod likeness;
 mod rollback_data;
+mod rows_after;
 mod rows_booted;
 mod wholeness;
 
@@ -35,6 +36,7 @@ pub use likeness::{
     worlds_of_the_same_parts_stay_so,
 };
 pub use rollback_data::rollbacks_bring_back_data;
+pub use rows_after::{calls_settle_rows, submits_put_rows};
 pub use rows_booted::boots_settle_rows;
 pub use wholeness::activated_sessions_are_whole;
 

@@ -1,0 +1,14 @@
+use Rattle.apex_world.proofs.AdmittedLemmas.{admitted_is}
+use Rattle.apex_world.proofs.SubmitRows.{submit_puts}
+use Rattle.apex_world.proofs.SubmitWeight.{submit_weight, submit_units}
+use Rattle.apex_world.proofs.laws.rows_after.submits_put_rows.Goals as goal
+
+pub returns : goal.returns
+returns c = record {
+  rows = λ w law id children rollback parts ps e after k i.
+      submit_puts w law id children rollback ps (admitted_is w id children parts ps e).free k i;
+  weight = λ w law id children rollback parts ps e.
+      submit_weight w law id children rollback ps (admitted_is w id children parts ps e).free;
+  units = λ w law id children rollback parts ps e.
+      submit_units w law id children rollback ps (admitted_is w id children parts ps e).free;
+}
