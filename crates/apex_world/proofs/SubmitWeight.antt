@@ -24,7 +24,7 @@ use Rattle.apex_world.proofs.AlikeAfter.{target_in, in_target}
 use Rattle.apex_world.proofs.CommitKept.{sum_with}
 use Rattle.apex_world.proofs.EnteredSessions.{unused}
 use Rattle.apex_world.proofs.KeptLemmas.{Own, Holds, Backs, kept_back, keeps}
-use Rattle.apex_world.proofs.NewSession.{latest_with}
+use Rattle.apex_world.proofs.SessionBeside.{latest_with}
 use Rattle.apex_world.proofs.SubmitRows.{none_before, new_kept, was_target}
 
 -- sums of the same are the same
