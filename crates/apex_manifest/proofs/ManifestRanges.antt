@@ -1,6 +1,6 @@
 -- A manifest that was read has a name and a version in range. Callers want `manifest_ranges`.
-use Rattle.std.proofs.Common.{◌≡◌, ℕ, ◌≤◌, Bool, true, ◌&&◌, IsTrue, List, Option, Some, None, Result, Ok, leb, sym, ap}
-use Rattle.std.proofs.Common.{subst, ◌∙◌, refl}
+use Rattle.std.proofs.Common.{◌≡◌, ℕ, ◌&&◌, IsTrue, List, Option, Some, None, Result, Ok, leb}
+use Rattle.std.proofs.Common.{subst, refl}
 use Rattle.std.specs.Prelude.{ok_or, codes, option_and_then}
 use Rattle.std.proofs.lemmas.Bool.{and_parts, leb-true}
 use Rattle.serde_json.specs.Data.{Data, Members}

@@ -54,7 +54,6 @@ back_to Plain id e = absurd (cc)
 back_to WithRollback id e = absurd (cc)
 back_to (RollbackOf x) id e = (x, refl, eqb-true x.0 id.0 e)
 
-
 committed_is : (o : Option RollbackState) → is_committed o ≡ true → o ≡ Some Committed
 committed_is None e = absurd (cc)
 committed_is (Some Enabling) e = absurd (cc)

@@ -65,7 +65,7 @@ fold_alike eras eras' ss f g (r ∷ xs) c same =
 -- What is restored is kept
 
 -- a session that a boot activates was ready
-was_staged : (cause : Option Cause) (b : ℕ) (r s : Record) → (r.state ≡ state.Activated → ⊥)
+pub was_staged : (cause : Option Cause) (b : ℕ) (r s : Record) → (r.state ≡ state.Activated → ⊥)
     → s.state ≡ state.Activated → Turns cause b r s → is_staged r.state ≡ true
 was_staged cause b r s d e (Rests f g h) = absurd (d (sym g ∙ e))
 was_staged cause b r s d e (Activates f g h i) = ap is_staged f
@@ -90,7 +90,7 @@ names_undone ss x ps qs name e n =
 
 module _ (w : World) (law : Lawful w) where
   -- a session whose rollback is ready keeps its past
-  keeps_snapshot : (x r : Record) → In x w.sessions → In r w.sessions → IsRollbackSession w.sessions x r
+  pub keeps_snapshot : (x r : Record) → In x w.sessions → In r w.sessions → IsRollbackSession w.sessions x r
       → is_staged r.state ≡ true → has_snapshot w.sessions x ≡ true
   keeps_snapshot x r h i back s =
       let (is, some) = committed_some x.rollback back.committed in

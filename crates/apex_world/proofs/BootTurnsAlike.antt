@@ -27,7 +27,7 @@ use Rattle.apex_world.proofs.LatestLemmas.{latest_is}
 use Rattle.apex_world.proofs.OpenedModules.{HaveSameFiles}
 
 -- a module that a name holds is kept
-held_kept : (ss : List Record) (name : List ℕ) (session : SessionId) (part version : ℕ)
+pub held_kept : (ss : List Record) (name : List ℕ) (session : SessionId) (part version : ℕ)
     → held ss name ≡ targets.Module session part version
     → In (targets.Module session part version) (kept ss)
 held_kept ss name session part version e =

@@ -79,7 +79,7 @@ module _ (order : BootOrder) (watches : Watches) where
     pub known : is_some (preinstalled image.modules b) ≡ true
     pub was : value_of watches a b ≡ Some end
 
-  lasting_get : (a b : List ℕ) → fin.get (part a) b
+  pub lasting_get : (a b : List ℕ) → fin.get (part a) b
       ≡ cond (is_some (preinstalled image.modules b) && is_before order.time (value_of watches a b))
       (value_of watches a b) None
   lasting_get a b = get-retain_keys (part_of watches a) (λ name. is_some (preinstalled image.modules name)

@@ -25,15 +25,18 @@ use Rattle.apex_world.proofs.WatchRuns.{watch_running}
 
 -- calls that only answer leave the world
 
+-- State leaves the world
 told_running : (w : World) → Running w → (id : SessionId) (o : Option Record) → Running (told w id o).world
 told_running w run id None = run
 told_running w run id (Some r) = run
 
+-- Get leaves the world
 get_running : (w : World) → Running w → (o : Result (List ℕ) Refusal)
     → Running (answered w (o >>= λ value. Ok (record { world = w; reply = reply.Value value }))).world
 get_running w run (Ok value) = run
 get_running w run (Err refusal) = run
 
+-- each call keeps a running world running
 pub calls_run : (w : World) → Running w → (call : Call) → IsCall call → Running (step w call).world
 calls_run w run (calls.Submit id children rollback parts) h = submit_running w run id children rollback parts h
 calls_run w run (calls.Ready id) h = ready_running w run id

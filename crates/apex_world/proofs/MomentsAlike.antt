@@ -29,7 +29,7 @@ sorted_more (x ∷ xs) t s l = (
 
 -- The last five, with one more
 
-five_of : (xs : List ℕ) (t : ℕ) → last_five (xs ++ t ∷ []) ≡ last_five (last_five xs ++ t ∷ [])
+pub five_of : (xs : List ℕ) (t : ℕ) → last_five (xs ++ t ∷ []) ≡ last_five (last_five xs ++ t ∷ [])
 five_of xs t =
     let k = length xs - 5 in
     let front : last_five xs ++ t ∷ [] ≡ drop k (xs ++ t ∷ []) =

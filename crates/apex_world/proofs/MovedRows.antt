@@ -194,13 +194,16 @@ module _ (w : World) (law : Lawful w) (r : Record) (h : In r w.sessions) (t : St
         | inl (same, is) ↦
             let zero : x.activation ≡ 0 = ap (λ (q : Record). q.activation) same ∙ never in
             (i, never_snapshot after (g x) ((like x i).activation ∙ zero) ∙ sym (never_snapshot ss x zero))
-        | inr (d, is) ↦ (i, has_same ss g like x i (ap (λ (q : Record). may_happen after q.id q.rollback) is
-            ∙ may_same ss g like ids x.id x.rollback (λ c.
-            staged_same ss g like ids (rollback_id x.id) (λ z found.
-            elim (either z (of_found ss (rollback_id x.id) z found).0) [
-              | inl (one, gone) ↦ absurd (apart z (ap is_committed c) found one)
-              | inr (d, gone) ↦ ap (λ (q : Record). is_staged q.state) gone
-            ]))))
+        | inr (d, is) ↦ (
+          i,
+          has_same ss g like x i (ap (λ (q : Record). may_happen after q.id q.rollback) is
+              ∙ may_same ss g like ids x.id x.rollback (λ c.
+              staged_same ss g like ids (rollback_id x.id) (λ z found.
+              elim (either z (of_found ss (rollback_id x.id) z found).0) [
+                | inl (one, gone) ↦ absurd (apart z (ap is_committed c) found one)
+                | inr (d, gone) ↦ ap (λ (q : Record). is_staged q.state) gone
+              ]))),
+        )
       ]
 
   -- a session that takes one back is that of its rollback

@@ -1,6 +1,7 @@
 -- Maps of names: how many names they have at most, what they weigh, and tables with a value more or less. Callers want
 -- `named_len`, `named_sum`, `value_with`, `value_without`, `some_with` and `there_with`.
-use Rattle.std.proofs.Common.{◌≡◌, ◌≢◌, ℕ, ◌≤◌, Bool, true, false, cond, eqb, List, [], ◌∷◌, length, map, Option, Some, None}
+use Rattle.std.proofs.Common.{◌≡◌, ◌≢◌, ℕ, ◌≤◌, Bool, true, false, cond, eqb, List, [], ◌∷◌, length, map, Option}
+use Rattle.std.proofs.Common.{Some, None}
 use Rattle.std.proofs.Common.{sym, ap, subst, ◌∙◌, refl, inl, inr, ◌⊎◌, arith}
 use Rattle.std.specs.Prelude.{IfSome, is_some}
 use Rattle.std.specs.List.{sum_by}
@@ -18,6 +19,7 @@ use Rattle.apex_base.proofs.SumLemmas.{sum_most, length_most}
 use Rattle.apex_base.proofs.TableLemmas.{whole, part_whole}
 
 module _ {X : Type 0} where
+  -- entries in order have different keys
   apart_from : (es : List (List ℕ × X)) → is_sorted (slice_cmp nat_cmp) es ≡ true
       → EachPair (λ (e f : List ℕ × X). e.0 ≢ f.0) es
   apart_from [] s = tt
@@ -30,6 +32,7 @@ module _ {X : Type 0} where
   pub entries_apart : (m : NameMap X) → EachPair (λ (e f : List ℕ × X). e.0 ≢ f.0) (fin.entries m)
   entries_apart m = apart_from (fin.entries m) (sorted_entries m)
 
+  -- keys in order differ
   keys_from : (es : List (List ℕ × X)) → is_sorted (slice_cmp nat_cmp) es ≡ true
       → EachPair (λ (a b : List ℕ). a ≢ b) (map (λ e. e.0) es)
   keys_from [] s = tt
@@ -61,13 +64,15 @@ module _ {X : Type 0} where
 
   -- A part of a table is put in its place
 
+  -- a part that is empty is taken away, and another is put
   with_if : (b : Bool) (t : Table X) (a q : List ℕ) (m : NameMap X) → eqb (fin.len m) 0 ≡ b
       → fin.get (cond b (fin.remove t a) (fin.insert t a m)) q
       ≡ cond (eq_by_cmp (slice_cmp nat_cmp) q a) (cond b None (Some m)) (fin.get t q)
   with_if true t a q m e = get-remove nat_list_cmp_total t a q
   with_if false t a q m e = get-insert nat_list_cmp_total t a m q
 
-  get_with : (t : Table X) (a q : List ℕ) (m : NameMap X)
+  -- what a first name stands for then
+  pub get_with : (t : Table X) (a q : List ℕ) (m : NameMap X)
       → fin.get (with_part t a m) q ≡ cond (eq_by_cmp (slice_cmp nat_cmp) q a) (whole m) (fin.get t q)
   get_with t a q m = with_if (eqb (fin.len m) 0) t a q m refl
 
@@ -83,10 +88,12 @@ module _ {X : Type 0} where
         | inr e ↦ inr (ap or_empty (get_with t a q m ∙ ap (λ b. cond b (whole m) (fin.get t q)) e))
       ]
 
+  -- a part that is put isn't empty
   some_whole : (b : Bool) (m : NameMap X) → eqb (fin.len m) 0 ≡ b → IfSome (cond b None (Some m)) (λ m. fin.len m ≢ 0)
   some_whole true m e = tt
   some_whole false m e = eqb-false (fin.len m) 0 e
 
+  -- what stands there isn't empty
   some_if : (b : Bool) (m : NameMap X) (o : Option (NameMap X)) → IfSome o (λ m. fin.len m ≢ 0)
       → IfSome (cond b (whole m) o) (λ m. fin.len m ≢ 0)
   some_if true m o h = some_whole (eqb (fin.len m) 0) m refl
@@ -98,6 +105,7 @@ module _ {X : Type 0} where
   some_with t a q m h = subst (λ (o : Option (NameMap X)). IfSome o (λ m. fin.len m ≢ 0)) (sym (get_with t a q m))
       (some_if (eq_by_cmp (slice_cmp nat_cmp) q a) m (fin.get t q) h)
 
+  -- what is there is the name that was put, or was there
   there_if : (b : Bool) (q a : List ℕ) (m : NameMap X) (o : Option (NameMap X))
       → eq_by_cmp (slice_cmp nat_cmp) q a ≡ b → is_some (cond b (whole m) o) ≡ true → (q ≡ a) ⊎ (is_some o ≡ true)
   there_if true q a m o e h = inl (same_bytes q a e)
@@ -111,15 +119,18 @@ module _ {X : Type 0} where
 
   -- One value
 
+  -- what is found is what was put, or was found
   insert_if : (c : Bool) (k b : List ℕ) (x y : X) (o : Option X) → eq_by_cmp (slice_cmp nat_cmp) k b ≡ c
       → cond c (Some x) o ≡ Some y → ((k ≡ b) × (x ≡ y)) ⊎ (o ≡ Some y)
   insert_if true k b x y o e f = inl (same_bytes k b e, cc)
   insert_if false k b x y o e f = inr f
 
+  -- what is found was found
   remove_if : (c : Bool) (y : X) (o : Option X) → cond c None o ≡ Some y → o ≡ Some y
   remove_if true y o f = absurd (cc)
   remove_if false y o f = f
 
+  -- what a map without a key has, it had
   pub get_removed : (m : NameMap X) (b k : List ℕ) (y : X) → fin.get (fin.remove m b) k ≡ Some y → fin.get m k ≡ Some y
   get_removed m b k y e = remove_if (eq_by_cmp (slice_cmp nat_cmp) k b) y (fin.get m k)
       (sym (get-remove nat_list_cmp_total m b k) ∙ e)

@@ -1,6 +1,7 @@
 -- The parts and the modules of a new session. Callers want `parts_range`, `parts_length`, `parts_differ`, `parts_own`,
 -- `parts_versions`, `named_back`, `part_there`, `submitted_there` and `modules_differ`.
-use Rattle.std.proofs.Common.{◌≡◌, ◌≢◌, ℕ, suc, ◌+◌, ◌<◌, ◌≤◌, Bool, true, false, cond, eqb, ◌&&◌, IsTrue, List, [], ◌∷◌, ◌++◌}
+use Rattle.std.proofs.Common.{◌≡◌, ◌≢◌, ℕ, suc, ◌+◌, ◌<◌, ◌≤◌, Bool, true, false, cond, eqb, ◌&&◌, IsTrue, List, []}
+use Rattle.std.proofs.Common.{◌∷◌, ◌++◌}
 use Rattle.std.proofs.Common.{length, find, Option, Some, None, sym, ap, subst, ◌∙◌, refl, inl, inr, arith}
 use Rattle.std.specs.Prelude.{slice_get}
 use Rattle.std.specs.List.{AllByRecursion}
@@ -24,6 +25,7 @@ use Rattle.apex_world.specs.Submit.{parts_from, submissions_from}
 
 -- Its parts
 
+-- they are in range
 pub parts_range : (id : SessionId) (k : ℕ) (ps : List Package) → IsId id → k + length ps ≤ 256
     → ((p : Package) → In p ps → IsTrue (is_name p.name) × IsVersion p.version)
     → AllByRecursion IsPart (parts_from id k ps)
@@ -36,6 +38,7 @@ parts_range id k (p ∷ ps) is few all =
       parts_range id (k + 1) ps is (omega (arith, few, count)) (λ q h. all q (inr h)),
     )
 
+-- there are as many as packages
 pub parts_length : (id : SessionId) (k : ℕ) (ps : List Package) → length (parts_from id k ps) ≡ length ps
 parts_length id k [] = refl
 parts_length id k (p ∷ ps) = ap (λ n. suc n) (parts_length id (k + 1) ps)
@@ -47,6 +50,7 @@ named_back id k [] q h = absurd h
 named_back id k (p ∷ ps) q (inl e) = (p, inl refl, ap (λ (q : Part). q.name) e)
 named_back id k (p ∷ ps) q (inr h) = let (r, i, e) = named_back id (k + 1) ps q h in (r, inr i, e)
 
+-- their names differ
 pub parts_differ : (id : SessionId) (k : ℕ) (ps : List Package) → EachPair (λ (p q : Package). p.name ≢ q.name) ps
     → EachPair (λ (p q : Part). p.name ≢ q.name) (parts_from id k ps)
 parts_differ id k [] d = tt
@@ -57,10 +61,12 @@ parts_differ id k (p ∷ ps) d = (
   parts_differ id (k + 1) ps d.1,
 )
 
+-- their targets are their own modules
 pub parts_own : (id : SessionId) (k : ℕ) (ps : List Package) → AreOwn id k (parts_from id k ps)
 parts_own id k [] = tt
 parts_own id k (p ∷ ps) = ((p.version, refl), parts_own id (k + 1) ps)
 
+-- each has the version of its target
 pub parts_versions : (id : SessionId) (k : ℕ) (ps : List Package) (q : Part) → In q (parts_from id k ps)
     → q.version ≡ target_version q.target
 parts_versions id k [] q h = absurd h
@@ -76,24 +82,33 @@ pub record IsPlaced (id : SessionId) (k : ℕ) (ps : List Package) (q : Part) : 
   pub given : Package
   pub among : In given ps
   pub counts : number ≡ k + place
-  pub is : q ≡ record { name = given.name; version = Some given.version; target = targets.Module id number given.version }
+  pub is : q ≡ record {
+    name = given.name;
+    version = Some given.version;
+    target = targets.Module id number given.version;
+  }
   pub there : slice_get (parts_from id k ps) place ≡ Some q
   pub submitted : submitted_by (submissions_from id k ps) id number ≡ Some given.content
 
+-- the first module is found
 pub first_found : (id : SessionId) (k : ℕ) (p : Package) (ps : List Package)
     → submitted_by (submissions_from id k (p ∷ ps)) id k ≡ Some p.content
 first_found id k p ps =
-    ap (λ b. option_map (λ (s : Submission). s.content) (cond b (Some (record { session = id; part = k; content = p.content }))
+    ap (λ b. option_map (λ (s : Submission). s.content)
+    (cond b (Some (record { session = id; part = k; content = p.content }))
     (find (λ s. eqb s.session.0 id.0 && eqb s.part k) (submissions_from id (k + 1) ps))))
     (and_from (eqb id.0 id.0) (eqb k k) (eq-eqb id.0 id.0 refl) (eq-eqb k k refl))
 
+-- a later module is found after the first
 pub later_found : (id : SessionId) (k n : ℕ) (p : Package) (ps : List Package) → k ≢ n
     → submitted_by (submissions_from id k (p ∷ ps)) id n ≡ submitted_by (submissions_from id (k + 1) ps) id n
 later_found id k n p ps d =
-    ap (λ b. option_map (λ (s : Submission). s.content) (cond b (Some (record { session = id; part = k; content = p.content }))
+    ap (λ b. option_map (λ (s : Submission). s.content)
+    (cond b (Some (record { session = id; part = k; content = p.content }))
     (find (λ s. eqb s.session.0 id.0 && eqb s.part n) (submissions_from id (k + 1) ps))))
     (and_right (eqb id.0 id.0) (eqb k n) (ne_eqb k n d))
 
+-- each part has its place
 pub placed : (id : SessionId) (k : ℕ) (ps : List Package) (q : Part) → In q (parts_from id k ps) → IsPlaced id k ps q
 placed id k [] q h = absurd h
 placed id k (p ∷ ps) q (inl e) = record {
@@ -131,6 +146,7 @@ pub record IsSubmittedAt (id : SessionId) (k : ℕ) (ps : List Package) (s : Sub
   pub content : s.content ≡ given.content
   pub there : slice_get (parts_from id k ps) place ≡ Some part
 
+-- each module has its place
 pub submitted_at : (id : SessionId) (k : ℕ) (ps : List Package) (s : Submission) → In s (submissions_from id k ps)
     → IsSubmittedAt id k ps s
 submitted_at id k [] s h = absurd h
@@ -160,9 +176,11 @@ submitted_at id k (p ∷ ps) s (inr h) =
       there = r.there;
     }
 
+-- two modules are not of one part of one session
 abbrev pub AreOthers : Submission → Submission → Type 0
 AreOthers s t = s.session.0 ≡ t.session.0 → s.part ≢ t.part
 
+-- no two are of one part
 pub modules_differ : (id : SessionId) (k : ℕ) (ps : List Package) → EachPair AreOthers (submissions_from id k ps)
 modules_differ id k [] = tt
 modules_differ id k (p ∷ ps) = (
@@ -174,6 +192,7 @@ modules_differ id k (p ∷ ps) = (
 
 -- Modules beside others
 
+-- what holds of the pairs of two lists, and of each two of both, holds of the pairs of all
 pub pairs_append : {X : Type 0} (P : X → X → Type 0) (xs ys : List X) → EachPair P xs → EachPair P ys
     → ((x y : X) → In x xs → In y ys → P x y) → EachPair P (xs ++ ys)
 pairs_append P [] ys a b all = b
@@ -185,21 +204,26 @@ pairs_append P (x ∷ xs) ys a b all = (
   pairs_append P xs ys a.1 b (λ z y h i. all z y (inr h) i),
 )
 
+-- what is found first is found first in more
 find_if : {X : Type 0} (b : Bool) (x y : X) (o p : Option X) → (o ≡ Some x → p ≡ Some x) → cond b (Some y) o ≡ Some x
     → cond b (Some y) p ≡ Some x
 find_if true x y o p more e = e
 find_if false x y o p more e = more e
 
-find_front : {X : Type 0} (test : X → Bool) (x : X) (xs ys : List X) → find test xs ≡ Some x → find test (xs ++ ys) ≡ Some x
+-- what is found in front is found
+find_front : {X : Type 0} (test : X → Bool) (x : X) (xs ys : List X) → find test xs ≡ Some x
+    → find test (xs ++ ys) ≡ Some x
 find_front test x [] ys e = absurd (cc)
 find_front test x (y ∷ xs) ys e = find_if (test y) x y (find test xs) (find test (xs ++ ys)) (find_front test x xs ys) e
 
+-- where nothing passes in front, what is found is behind
 find_back : {X : Type 0} (test : X → Bool) (xs ys : List X) → ((x : X) → In x xs → test x ≡ false)
     → find test (xs ++ ys) ≡ find test ys
 find_back test [] ys none = refl
 find_back test (x ∷ xs) ys none =
     ap (λ b. cond b (Some x) (find test (xs ++ ys))) (none x (inl refl)) ∙ find_back test xs ys (λ y h. none y (inr h))
 
+-- the content of what is found
 some_content : (o p : Option Submission) (m : FileMap) → ((s : Submission) → o ≡ Some s → p ≡ Some s)
     → option_map (λ (s : Submission). s.content) o ≡ Some m → option_map (λ (s : Submission). s.content) p ≡ Some m
 some_content None p m more e = absurd (cc)

@@ -75,7 +75,7 @@ end_again : (n : ℕ) → n ≤ 18014398509481982 → end_of (eight_text n []) �
 unfolding end_of
 end_again n l = rw (eight_again n [] (omega (arith, l))) refl
 
-end_if : (o : Option ℕ) → ((n : ℕ) → o ≡ Some n → n ≤ 18014398509481982)
+pub end_if : (o : Option ℕ) → ((n : ℕ) → o ≡ Some n → n ≤ 18014398509481982)
     → option_and_then end_of (option_map (λ n. eight_text n []) o) ≡ o
 end_if None most = refl
 end_if (Some n) most = end_again n (most n refl)

@@ -277,11 +277,11 @@ become_same : (mounts : Mounts) (modules : List Submission) (order : BootOrder) 
 become_same mounts modules order n r e =
     aged_same order.time (booted mounts modules order.image n r) (booted_none mounts modules order.image n r e)
 
-map_by : {X Y : Type 0} (f g : X → Y) (xs : List X) → ((x : X) → In x xs → f x ≡ g x) → map f xs ≡ map g xs
+pub map_by : {X Y : Type 0} (f g : X → Y) (xs : List X) → ((x : X) → In x xs → f x ≡ g x) → map f xs ≡ map g xs
 map_by f g [] e = refl
 map_by f g (x ∷ xs) e = let here = e x (inl refl) in let rest = map_by f g xs (λ y h. e y (inr h)) in cc (here, rest)
 
-flat_map_by : {X Y : Type 0} (f g : X → List Y) (xs : List X) → ((x : X) → In x xs → f x ≡ g x)
+pub flat_map_by : {X Y : Type 0} (f g : X → List Y) (xs : List X) → ((x : X) → In x xs → f x ≡ g x)
     → flat_map f xs ≡ flat_map g xs
 flat_map_by f g [] e = refl
 flat_map_by f g (x ∷ xs) e = let here = e x (inl refl) in let rest = flat_map_by f g xs (λ y h. e y (inr h)) in

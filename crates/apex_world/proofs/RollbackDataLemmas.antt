@@ -43,7 +43,7 @@ use Rattle.apex_world.proofs.RollbackIds.{lawful_undone, only_one}
 
 -- A session that went to a state
 
-number_activated : (s : State) → state_number s ≡ 3 → s ≡ state.Activated
+pub number_activated : (s : State) → state_number s ≡ 3 → s ≡ state.Activated
 number_activated state.Verified e = absurd (omega (arith, e))
 number_activated state.Staged e = absurd (omega (arith, e))
 number_activated state.Activated e = refl
@@ -53,7 +53,7 @@ number_activated state.RevertInProgress e = absurd (omega (arith, e))
 number_activated state.Reverted e = absurd (omega (arith, e))
 number_activated state.Aborted e = absurd (omega (arith, e))
 
-number_reverted : (s : State) → state_number s ≡ 7 → s ≡ state.Reverted
+pub number_reverted : (s : State) → state_number s ≡ 7 → s ≡ state.Reverted
 number_reverted state.Verified e = absurd (omega (arith, e))
 number_reverted state.Staged e = absurd (omega (arith, e))
 number_reverted state.Activated e = absurd (omega (arith, e))
@@ -68,14 +68,14 @@ module _ (s : State) (only : (t : State) → state_number t ≡ state_number s �
   went_if true e d = absurd (d (only old.state (eqb-true (state_number old.state) (state_number s) e)))
   went_if false e d = refl
 
-  is_became : old.state ≢ s → new.state ≡ s → became s old new ≡ true
+  pub is_became : old.state ≢ s → new.state ≡ s → became s old new ≡ true
   is_became d e =
       let went = went_if (eqb (state_number old.state) (state_number s)) refl d in
       let is : eqb (state_number new.state) (state_number s) ≡ true = eq-eqb (state_number new.state) (state_number s)
       (ap state_number e) in
       rw (is, went) refl
 
-  became_is : became s old new ≡ true → (old.state ≢ s) × (new.state ≡ s)
+  pub became_is : became s old new ≡ true → (old.state ≢ s) × (new.state ≡ s)
   became_is e =
       let (is, went) = and_parts (eqb (state_number new.state) (state_number s))
       (not (eqb (state_number old.state) (state_number s))) e in (
@@ -153,7 +153,7 @@ module _ (w : World) (order : BootOrder) (mounts : Mounts) (law : Lawful w) wher
   keeps_kind : (r : Record) → (f r).kind ≡ r.kind
   keeps_kind r = (become_keeps mounts w.modules order number r).kind
 
-  keeps_names : (name : List ℕ) (r : Record) → names name (f r) ≡ names name r
+  pub keeps_names : (name : List ℕ) (r : Record) → names name (f r) ≡ names name r
   keeps_names name r = ap (λ (ps : List Part). list_any (λ p. bytes_eq p.name name) ps)
       (become_keeps mounts w.modules order number r).parts
 
@@ -161,7 +161,7 @@ module _ (w : World) (order : BootOrder) (mounts : Mounts) (law : Lawful w) wher
   keeps_id r = (become_keeps mounts w.modules order number r).id
 
   -- what went to a state in all of the boot did so before the boot loop
-  goes_back : (s : State) → lasts s ≡ true → (r : Record) → In r w.sessions → WentTo s r after → (f r).state ≡ s
+  pub goes_back : (s : State) → lasts s ≡ true → (r : Record) → In r w.sessions → WentTo s r after → (f r).state ≡ s
   goes_back s l r h went =
       let t = went.after_it in
       let (i, same) = of_found after.sessions r.id t went.found in
@@ -205,7 +205,7 @@ module _ (w : World) (order : BootOrder) (mounts : Mounts) (law : Lawful w) wher
   abbrev in_image : List ℕ → Bool
   in_image name = is_some (preinstalled order.image.modules name)
 
-  runs_is : (name : List ℕ) → runs after name ≡ in_image name
+  pub runs_is : (name : List ℕ) → runs after name ≡ in_image name
   runs_is name = ap (λ (i : Option Image). is_some (in_running i name)) loops.image
 
   data_is : (name : List ℕ) → part_of after.contents name ≡ cond (in_image name)

@@ -1,6 +1,7 @@
--- What runs, and running worlds with other data or other watches. Callers want `image_of`, `runs_in`, `with_contents` and
--- `with_watches`.
-use Rattle.std.proofs.Common.{◌≡◌, ◌≢◌, ℕ, ◌*◌, ◌≤◌, true, List, length, map, Option, Some, sym, ap, subst, ◌∙◌, refl, arith}
+-- What runs, and running worlds with other data or other watches. Callers want `image_of`, `runs_in`, `with_contents`
+-- and `with_watches`.
+use Rattle.std.proofs.Common.{◌≡◌, ◌≢◌, ℕ, ◌*◌, ◌≤◌, true, List, length, map, Option, Some, sym, ap, subst, ◌∙◌, refl}
+use Rattle.std.proofs.Common.{arith}
 use Rattle.std.proofs.Common.{mul-le-mul_right, le_trans, is_some}
 use Rattle.std.specs.Prelude.{IfSome}
 use Rattle.std.specs.Str.{bytes_eq}
@@ -43,10 +44,12 @@ image_of w run =
 -- a name that runs is among its names
 pub runs_in : (w : World) (image : Image) (name : List ℕ) → w.image ≡ Some image → runs w name ≡ true
     → In name (image_names image)
-runs_in w image name e h = in_image_names image name (ap (λ (o : Option Image). is_some (in_running o name)) (sym e) ∙ h)
+runs_in w image name e h =
+    in_image_names image name (ap (λ (o : Option Image). is_some (in_running o name)) (sym e) ∙ h)
 
 -- the same modules of the same sessions
-pub modules_again : (w : World) → Lawful w → (v : World) → v.sessions ≡ w.sessions → v.modules ≡ w.modules → HaveModules v
+pub modules_again : (w : World) → Lawful w → (v : World) → v.sessions ≡ w.sessions → v.modules ≡ w.modules
+    → HaveModules v
 modules_again w law v sessions modules = record {
   kept = λ session part version h.
       let k = law.modules.kept session part version
@@ -79,10 +82,12 @@ module _ (w : World) (run : Running w) where
       (run_all : (observer name : List ℕ) (end : ℕ) → value_of t observer name ≡ Some end → runs w name ≡ true)
       (registered : (observer name : List ℕ) (end : ℕ) → value_of t observer name ≡ Some end
       → is_registered w observer ≡ true) where
+    -- a value of a part of a table is one of the table
     at_part : (observer : List ℕ) (m : NameMap ℕ) → fin.get t observer ≡ Some m → (name : List ℕ) (end : ℕ)
         → fin.get m name ≡ Some end → value_of t observer name ≡ Some end
     at_part observer m e name end f = ap (λ (o : Option (NameMap ℕ)). fin.get (or_empty o) name) e ∙ f
 
+    -- a name that watches is that of an observer
     in_observers : (observer : List ℕ) (m : NameMap ℕ) → fin.get t observer ≡ Some m
         → In observer (map (λ (o : Observer). o.name) w.observers)
     in_observers observer m e =
@@ -92,6 +97,7 @@ module _ (w : World) (run : Running w) where
         (registered observer name end (at_part observer m e name end f)) in
         rw (← same_name o.name observer g) (in_map (λ (o : Observer). o.name) o w.observers h)
 
+    -- there are at most eight watches for each module that an image may have
     pub few_watches : table_len t ≤ 8 * scale_modules w.scale
     few_watches =
         let first = named_len t (map (λ (o : Observer). o.name) w.observers) in_observers in
@@ -117,6 +123,7 @@ module _ (w : World) (run : Running w) where
     abbrev with_data : World
     with_data = record w { contents = c }
 
+    -- the world with it is lawful
     data_lawful : Lawful with_data
     data_lawful = record {
       ranges = record {
@@ -156,6 +163,7 @@ module _ (w : World) (run : Running w) where
       begun = run.lawful.begun;
     }
 
+    -- and it runs
     pub with_contents : Running (record w { contents = c })
     with_contents = record {
       lawful = data_lawful;
@@ -177,6 +185,7 @@ module _ (w : World) (run : Running w) where
     abbrev watched_world : World
     watched_world = record w { watches = t; clock = clock }
 
+    -- the world with them is lawful
     watches_lawful : Lawful watched_world
     watches_lawful = record {
       ranges = record {
@@ -213,6 +222,7 @@ module _ (w : World) (run : Running w) where
       begun = run.lawful.begun;
     }
 
+    -- and it runs
     pub with_watches : Running (record w { watches = t; clock = clock })
     with_watches = record {
       lawful = watches_lawful;

@@ -18,13 +18,16 @@ pub then_ok : {A B E : Type 0} (o : Result A E) (f : A → Result B E) (y : B) �
 then_ok (Ok x) f y e = (x, refl, e)
 then_ok (Err fault) f y e = absurd (cc)
 
+-- a name and a version in range
 abbrev InRange : Manifest → Type 0
 InRange manifest = IsTrue (is_name manifest.name) × IsVersion manifest.version
 
+-- a manifest that is there is in range
 at_range : (o : Option (List ℕ)) (manifest : Manifest) → manifest_at o ≡ Ok manifest → InRange manifest
 at_range None manifest e = absurd (cc)
 at_range (Some bytes) manifest e = manifest_ranges bytes manifest e
 
+-- a module without a fault says what its manifest says
 unless_if : (o : Option ModuleFault) (x manifest : Manifest) → unless o x ≡ Ok manifest → x ≡ manifest
 unless_if None x manifest e = cc
 unless_if (Some fault) x manifest e = absurd (cc)

@@ -24,7 +24,7 @@ use Rattle.apex_world.proofs.AlikeAfter.{target_in, in_target}
 use Rattle.apex_world.proofs.CommitKept.{sum_with}
 use Rattle.apex_world.proofs.EnteredSessions.{unused}
 use Rattle.apex_world.proofs.KeptLemmas.{Own, Holds, Backs, kept_back, keeps}
-use Rattle.apex_world.proofs.NewSession.{latest_with}
+use Rattle.apex_world.proofs.SessionBeside.{latest_with}
 use Rattle.apex_world.proofs.SubmitRows.{none_before, new_kept, was_target}
 
 -- sums of the same are the same
@@ -45,8 +45,13 @@ given_weight ts id k (p ∷ ps) all =
     let first : target_weight ts s ≡ module_weight p.content =
     ap (λ (b : Bool). cond b (module_weight p.content) 0) (in_target ts id k p.version (all _ (inl refl))) in
     let rest = given_weight ts id (k + 1) ps (λ q h. all q (inr h)) in
-    omega (arith, first, rest, sum_by-cons (target_weight ts) s (submissions_from id (k + 1) ps),
-    sum_by-cons (λ (p : Package). module_weight p.content) p ps)
+    omega (
+      arith,
+      first,
+      rest,
+      sum_by-cons (target_weight ts) s (submissions_from id (k + 1) ps),
+      sum_by-cons (λ (p : Package). module_weight p.content) p ps,
+    )
 
 -- tests that say the same
 tests_same : (b c : Bool) → (b ≡ true → c ≡ true) → (c ≡ true → b ≡ true) → b ≡ c

@@ -31,7 +31,7 @@ use Rattle.apex_world.proofs.MovedRows.{put_self, put_other}
 use Rattle.apex_world.proofs.OpenedSessions.{one_session}
 use Rattle.apex_world.proofs.SessionMaps.{put_for, same_put, with_as_map}
 use Rattle.apex_world.proofs.SuccessAlike.{succeeding_like, succeeding_state, outdated}
-use Rattle.apex_world.proofs.SuccessRuns.{sharing}
+use Rattle.apex_world.proofs.OutdatedRollbacks.{sharing}
 use Rattle.apex_world.proofs.TurnedRows.{by_answer, held_same, before_same}
 use Rattle.apex_world.proofs.WorldRows.{same_name}
 

@@ -1,6 +1,7 @@
 -- A world runs on where each session changes by itself as `Turns` says, and no two rollbacks of a name are available.
 -- Callers want `turned_running`.
-use Rattle.std.proofs.Common.{◌≡◌, ℕ, ◌≤◌, Bool, true, false, cond, ◌||◌, List, length, map, Option, sym, ap, ◌∙◌, refl, inl, inr, arith, is_some, le_trans}
+use Rattle.std.proofs.Common.{◌≡◌, ℕ, ◌≤◌, Bool, true, false, cond, ◌||◌, List, length, map, Option, sym, ap, ◌∙◌}
+use Rattle.std.proofs.Common.{refl, inl, inr, arith, is_some, le_trans}
 use Rattle.std.proofs.lemmas.Bool.{false≢true, or_left, or_right}
 use Rattle.apex_base.specs.declared.records.Cause.{Cause}
 use Rattle.apex_base.specs.declared.records.Part.{Part}
@@ -23,10 +24,14 @@ use Rattle.apex_world.specs.World.{World}
 use Rattle.apex_world.proofs.NameCounts.{names_within}
 use Rattle.apex_world.proofs.RunningLemmas.{image_of}
 use Rattle.apex_world.proofs.SessionMaps.{sum_map_most}
-use Rattle.apex_world.proofs.TurnedLemmas.{weight_less, from, peers_from, same_names, ascend, same_place, ids_after}
-use Rattle.apex_world.proofs.TurnedLemmas.{activations_after, was_kept, undone_after}
+use Rattle.apex_world.proofs.KeptWeights.{weight_less}
+use Rattle.apex_world.proofs.TurnedLemmas.{from, peers_from, same_names, ascend, same_place, ids_after}
+use Rattle.apex_world.proofs.TurnedLemmas.{activations_after}
+use Rattle.apex_world.proofs.TurnedLemmas.{was_kept}
+use Rattle.apex_world.proofs.TurnedRollbacks.{undone_after}
 use Rattle.apex_world.proofs.TurnedSessions.{Turns, parts_as, record_as}
 
+-- a session that passes less often has no more names that count
 count_if : (b c : Bool) (n m : ℕ) → n ≡ m → (b ≡ true → c ≡ true) → cond b n 0 ≤ cond c m 0
 count_if true true n m e f = omega (arith, e)
 count_if true false n m e f = absurd (false≢true (f refl))
@@ -37,7 +42,8 @@ count_less : (test : Record → Bool) (g : Record → Record) (ss : List Record)
     → ((r : Record) → In r ss → (g r).parts ≡ r.parts) → ((r : Record) → In r ss → test (g r) ≡ true → test r ≡ true)
     → name_count test (map g ss) ≤ name_count test ss
 count_less test g ss parts less = sum_map_most (λ r. cond (test r) (length r.parts) 0) g ss (λ r h.
-    count_if (test (g r)) (test r) (length (g r).parts) (length r.parts) (ap (λ (ps : List Part). length ps) (parts r h))
+    count_if (test (g r)) (test r) (length (g r).parts) (length r.parts)
+    (ap (λ (ps : List Part). length ps) (parts r h))
     (less r h))
 
 module _ (w : World) (run : Running w) (g : Record → Record) (same : (r : Record) → (g r).id ≡ r.id)
@@ -55,9 +61,11 @@ module _ (w : World) (run : Running w) (g : Record → Record) (same : (r : Reco
   law : Lawful w
   law = run.lawful
 
+  -- what holds of what each becomes holds of all
   each_has : (P : Record → Type 0) → ((r : Record) → In r ss → P (g r)) → (s : Record) → In s after → P s
   each_has P each = from w law g same turn P each
 
+  -- the modules are as they have to be
   modules_after : HaveModules world
   modules_after = record {
     kept = λ session part version h. elim (was_kept w law g same turn (targets.Module session part version) h) [
@@ -76,6 +84,7 @@ module _ (w : World) (run : Running w) (g : Record → Record) (same : (r : Reco
     owned = λ s h. ap (λ o. is_some o) (same_place w law g same turn s.session s.part) ∙ law.modules.owned s h;
   }
 
+  -- the parts are as they have to be
   parts_after : (s : Record) → In s after → HasParts s
   parts_after = each_has HasParts (λ r h. parts_as r (g r) (turn r h).kept (law.parts r h))
 
@@ -97,13 +106,16 @@ module _ (w : World) (run : Running w) (g : Record → Record) (same : (r : Reco
       ∙ imaged_after s name h (or_right (is_activated s.state) (can_be_rolled_back s || is_ready_rollback s)
       (or_left (can_be_rolled_back s) (is_ready_rollback s) a)) n)
 
+  -- modules weigh no more
   weight_after : weight_of after w.modules ≤ weight_of ss w.modules
   weight_after = weight_less (kept after) (kept ss) w.modules (was_kept w law g same turn)
 
+  -- sessions have no more units
   units_after : units_of after ≤ units_of ss
   units_after = sum_map_most (λ r. kind_units r.kind) g ss (λ r h.
       let e = ap kind_units (turn r h).kept.kind in omega (arith, e))
 
+  -- the world is lawful
   turned_lawful : Lawful world
   turned_lawful = record {
     ranges = record {
@@ -146,6 +158,7 @@ module _ (w : World) (run : Running w) (g : Record → Record) (same : (r : Reco
     begun = law.begun;
   }
 
+  -- and it runs
   pub turned_running : Running (record w { sessions = map g w.sessions; clock = clock })
   turned_running = record {
     lawful = turned_lawful;

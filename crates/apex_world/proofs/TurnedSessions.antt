@@ -40,6 +40,7 @@ pub record Turns (r s : Record) : Type 0 where
   pub ready : is_ready_rollback s ≡ true → is_ready_rollback r ≡ true
   pub imaged : is_of_image s ≡ true → is_of_image r ≡ true
 
+-- a session that turns goes on
 pub turn_goes : (r s : Record) → Turns r s → Goes r s
 turn_goes r s t = record {
   parts = t.kept.parts;

@@ -1,5 +1,6 @@
 -- Worlds run on after Watch. Callers want `watch_running`.
-use Rattle.std.proofs.Common.{◌≡◌, ℕ, ◌+◌, ◌≤◌, max, Bool, true, false, cond, eqb, IsTrue, List, [], ◌∷◌, Option, Some, None}
+use Rattle.std.proofs.Common.{◌≡◌, ℕ, ◌+◌, ◌≤◌, max, Bool, true, false, cond, eqb, IsTrue, List, [], ◌∷◌, Option}
+use Rattle.std.proofs.Common.{Some, None}
 use Rattle.std.proofs.Common.{sym, ap, subst, ◌∙◌, refl, inl, inr, arith, Ok}
 use Rattle.std.specs.FinMap as fin
 use Rattle.apex_base.specs.declared.refusal.Refusal.{Refusal}
@@ -58,6 +59,7 @@ module _ (w : World) (observer : List ℕ) (end : ℕ) (is : IsTrue (is_name obs
     ];
   }
 
+  -- a watch more for each name
   all_more : (names : List (List ℕ)) (t : Watches) → ((name : List ℕ) → In name names → IsTrue (is_name name))
       → ((name : List ℕ) → In name names → runs w name ≡ true) → AreWatches w t
       → AreWatches w (with_watches observer end names t)
@@ -81,6 +83,7 @@ all_known w (n ∷ names) e name h =
       | inr i ↦ all_known w names rest name i
     ]
 
+-- a watch lasts two days, or as long as is said
 length_by : (b : Bool) (duration : ℕ) → IsMillis duration → cond b 172800000 duration ≤ 9007199254740991
 length_by true duration d = omega arith
 length_by false duration d = d
@@ -88,9 +91,11 @@ length_by false duration d = d
 module _ (w : World) (run : Running w) (time : ℕ) (observer : List ℕ) (duration : ℕ) (names : List (List ℕ))
     (millis : IsMillis time) (is : IsTrue (is_name observer)) (lasts : IsMillis duration)
     (named : (name : List ℕ) → In name names → IsTrue (is_name name)) where
+  -- the clock is in range
   clock_millis : IsMillis (max w.clock time)
   clock_millis = let l = run.lawful.ranges.clock in omega (arith, l, millis)
 
+  -- the world with the watches runs
   watch_done : is_registered w observer ≡ true → first_unknown w.image names ≡ None
       → Running (watched w (max w.clock time) observer duration names)
   watch_done registered known =
@@ -106,6 +111,7 @@ module _ (w : World) (run : Running w) (time : ℕ) (observer : List ℕ) (durat
       other.with_watches w run (with_watches observer (max w.clock time + watch_length duration) names w.watches)
       (max w.clock time) a.table a.ends a.runs a.registered (omega arith) c
 
+  -- a watch that is refused, or not
   watch_by : (o p : Option Refusal) → no_observer w.observers observer ≡ o → first_unknown w.image names ≡ p
       → Running (replied w (pass o >>= λ x. pass p >>=
       λ y. Ok (watched w (max w.clock time) observer duration names))).world
@@ -113,5 +119,6 @@ module _ (w : World) (run : Running w) (time : ℕ) (observer : List ℕ) (durat
   watch_by None (Some refusal) e f = run
   watch_by (Some refusal) p e f = run
 
+  -- the call Watch
   pub watch_running : Running (watch w time observer duration names).world
   watch_running = watch_by (no_observer w.observers observer) (first_unknown w.image names) refl refl

@@ -1,6 +1,7 @@
 pub mod Advance
 pub mod Alike
 pub mod Boot
+pub mod BootByRows
 pub mod Bounds
 pub mod Calls
 pub mod Data
@@ -22,6 +23,7 @@ pub mod RollbackData
 pub mod RowLaws
 pub mod Rows
 pub mod RowsAfter
+pub mod RowsBooted
 pub mod RowsMoved
 pub mod Running
 pub mod Segments

@@ -17,15 +17,18 @@ ghost use Rattle.apex_world.specs.Selection.{Mounts};
 ghost use Rattle.apex_world.specs.Step.{step, success, submit, move_session};
 ghost use Rattle.apex_world.specs.World.{World, empty_world};
 
+mod boot_by_rows;
 mod decided;
 mod invariance_of_boots;
 mod invariance_of_calls;
 mod likeness;
 mod rollback_data;
 mod rows_after;
+mod rows_booted;
 mod rows_moved;
 mod wholeness;
 
+pub use boot_by_rows::boots_go_by_rows;
 pub use decided::lawful_worlds_are_decided;
 pub use invariance_of_boots::boots_lead_to_running;
 pub use invariance_of_calls::calls_keep_running;
@@ -35,6 +38,7 @@ pub use likeness::{
 };
 pub use rollback_data::rollbacks_bring_back_data;
 pub use rows_after::{calls_settle_rows, submits_put_rows};
+pub use rows_booted::boots_settle_rows;
 pub use rows_moved::{abort_changes_rows, ready_changes_rows, success_changes_rows};
 pub use wholeness::activated_sessions_are_whole;
 

@@ -12,12 +12,12 @@ ghost use Rattle.row_store.specs.Opening.{WhyRefused, CountsFault, IsBadAmong, I
 ghost use Rattle.row_store.specs.Refused.{store_why_of};
 
 use crate::reading::{Found, ReadWhy, read_records};
-use row_map::Rows;
 use crate::store::RowStore;
 use crate::why::StoreWhy;
 use apex_base::{Bytes, Scale};
 use apex_disk::Disk;
 use apex_journal::{Journal, JournalWhy};
+use row_map::Rows;
 use std::alloc::Global;
 
 impl<D: Disk> RowStore<D> {

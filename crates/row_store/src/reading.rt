@@ -5,9 +5,9 @@ ghost use Rattle.apex_journal.specs.Records.{blocks};
 ghost use Rattle.row_store.specs.Rows.{IsTaken, may_follow, so_far_of};
 ghost use Rattle.row_store.specs.Opening.{AreRead};
 
-use row_map::Rows;
 use apex_base::Bytes;
 use row_codec::decode_batch;
+use row_map::Rows;
 use std::alloc::{AllocError, Global};
 
 /// The rows of all batches, and the number of the last one, or 0.

@@ -9,11 +9,11 @@ ghost use Rattle.row_store.specs.Rows.{Held, next};
 ghost use Rattle.row_store.specs.Store.{Holds, Keeps, IsStore};
 ghost use Rattle.row_store.specs.Commits.{Commits, CommitCounts, IsFullWhere, MayStore};
 
-use row_map::Rows;
 use crate::why::CommitWhy;
 use apex_disk::{Device, Disk};
 use apex_journal::{AppendWhy, Journal};
 use row_codec::{Row, push_batch, reading_undoes_spelling};
+use row_map::Rows;
 use std::alloc::{AllocError, Global};
 use std::marker::Model;
 

@@ -4,7 +4,9 @@ use crate::fault::{LineError, LineFault};
 use crate::image::{image_with, with_manifest};
 use crate::words::PartWord;
 use apex_base::{Listed, Millis, Print, Scale, SessionId, Shared};
-use apex_world::{BootOrder, Image, ScriptBoot, SegmentForm, SegmentList, SharedModule, SingleSubmit};
+use apex_world::{
+    BootOrder, Image, ScriptBoot, SegmentForm, SegmentList, SharedModule, SingleSubmit,
+};
 use std::alloc::{AllocError, Global};
 
 impl Draft {
