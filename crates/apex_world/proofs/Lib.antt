@@ -76,6 +76,7 @@ pub mod Lasting
 pub mod LatestLemmas
 pub mod LeadsLemmas
 pub mod LikenessLaws
+pub mod ListedOrigins
 pub mod MomentsAlike
 pub mod MoveStates
 pub mod MovedRows

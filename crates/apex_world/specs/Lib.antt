@@ -5,6 +5,7 @@ pub mod BootByRows
 pub mod Bounds
 pub mod Calls
 pub mod Data
+pub mod DataOrigins
 pub mod Decided
 pub mod Fold
 pub mod Follows

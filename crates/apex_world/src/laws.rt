@@ -18,6 +18,7 @@ ghost use Rattle.apex_world.specs.Step.{step, success, submit, move_session};
 ghost use Rattle.apex_world.specs.World.{World, empty_world};
 
 mod boot_by_rows;
+mod data_origins;
 mod decided;
 mod invariance_of_boots;
 mod invariance_of_calls;
@@ -29,6 +30,7 @@ mod rows_moved;
 mod wholeness;
 
 pub use boot_by_rows::boots_go_by_rows;
+pub use data_origins::origins_tell_sources;
 pub use decided::lawful_worlds_are_decided;
 pub use invariance_of_boots::boots_lead_to_running;
 pub use invariance_of_calls::calls_keep_running;
