@@ -9,6 +9,7 @@ pub mod Fold
 pub mod Follows
 pub mod Forms
 pub mod Given
+pub mod Invariance
 pub mod Lawful
 pub mod Likeness
 pub mod Limits

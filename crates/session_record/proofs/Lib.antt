@@ -1,0 +1,4 @@
+pub mod Fronts
+pub mod Loop
+pub mod Parts
+pub mod Steps
