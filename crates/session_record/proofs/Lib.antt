@@ -1,7 +1,9 @@
 pub mod Fronts
 pub mod Loop
 pub mod Parts
+pub mod Pushes
 pub mod Steps
+pub mod Texts
 pub mod Took
 pub mod TookFields
 pub mod TookRecords

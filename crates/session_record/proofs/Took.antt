@@ -29,7 +29,7 @@ pub chosen_holds : {A : Type 0} (n k : ℕ) (x : A) (rest : Option A) (P : A →
 chosen_holds n k x rest P then_holds others =
     if_holds (eqb n k) (Some x) rest P (λ e. then_holds (eqb-true n k e)) (λ e. others)
 
-both : (a b : Bool) → a && b ≡ true → (a ≡ true) × (b ≡ true)
+pub both : (a b : Bool) → a && b ≡ true → (a ≡ true) × (b ≡ true)
 both true b e = (refl, e)
 both false b e = absurd cc
 

@@ -35,3 +35,12 @@ units_at few (suc n) bytes = do
   one ← unit_at few bytes
   more ← units_at few n one.1
   Some ((with_child one.0.0 more.0.0, one.0.1 ∷ more.0.1), more.1)
+
+-- the id before the next part, 0 where there are no children
+abbrev pub first_id : List SessionId → ℕ
+first_id [] = 0
+first_id (c ∷ cs) = c.0
+
+abbrev pub later_children : List SessionId → List SessionId
+later_children [] = []
+later_children (c ∷ cs) = cs

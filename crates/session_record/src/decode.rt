@@ -20,6 +20,7 @@ pub fn decode_record(
     ensures none { IfOk result (λ found. IfNone found ((r : Record) → r.id ≡ id → Spells bytes.now r → ⊥)) }
     ensures exact { IfOk result (λ found. found ≡ record_of id bytes.now) }
 {
+    let _number = id.0;
     read_record(alloc, id, bytes)
 }
 

@@ -2,9 +2,13 @@
 #![tactic(auto)]
 
 mod decode;
+mod encode;
 mod fields;
 mod front;
+mod length;
 mod reading;
 mod units;
+mod writing;
 
 pub use decode::decode_record;
+pub use encode::encode_record;

@@ -1,4 +1,4 @@
-use Rattle.std.proofs.Common.{◌≡◌, arith}
+use Rattle.std.proofs.Common.{◌≡◌, arith, rules}
 use Rattle.std.specs.Prelude.{IfSome, IfNone}
 use Rattle.std.proofs.lemmas.Result.{IfOk-weaker}
 use Rattle.apex_base.specs.declared.records.Record.{Record}
@@ -12,7 +12,7 @@ returns-clause-found c =
     let id = c.args.id in
     IfOk-weaker c.read_record.result (λ found. found ≡ record_of id bytes)
     (λ found. IfSome found (λ r. (r.id ≡ id) × Spells bytes r))
-    (λ found e. is_found id bytes found ? (λ i. omega (arith, c.type_inv.bytes i)) e) c.read_record.ensures
+    (λ found e. is_found id bytes found (search rules) (λ i. omega (arith, c.type_inv.bytes i)) e) c.read_record.ensures
 
 pub returns-clause-none : goal.returns-clause-none
 returns-clause-none c =
