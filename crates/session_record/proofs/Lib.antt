@@ -1,4 +1,5 @@
 pub mod Fronts
+pub mod Lengths
 pub mod Loop
 pub mod Parts
 pub mod Pushes
