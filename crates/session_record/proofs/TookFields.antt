@@ -99,12 +99,14 @@ unfolding case_at
 case_took n bytes fits e =
     bind_holds (byte_at bytes) _ _ _ (byte_took bytes fits) (λ k t.
     bind_holds (case_of_number k.0) _ _ _ (case_numbered k.0) (λ case is.
-    bind_holds (name_at k.1) _ _ _ (name_took k.1 t.0.rest_fits) (λ name u.
-    (record {
-      is = ap (λ (k : ℕ). k ∷ bytes) e ∙ ap (λ (xs : List ℕ). 4 ∷ xs) t.0.is
-          ∙ ap (λ (m : ℕ). 4 ∷ m ∷ k.1) is ∙ ap (λ (xs : List ℕ). 4 ∷ case_number case ∷ xs) u.0.is;
-      rest_fits = u.0.rest_fits;
-    }, u.1))))
+    bind_holds (name_at k.1) _ _ _ (name_took k.1 t.0.rest_fits) (λ name u. (
+      record {
+        is = ap (λ (k : ℕ). k ∷ bytes) e ∙ ap (λ (xs : List ℕ). 4 ∷ xs) t.0.is
+            ∙ ap (λ (m : ℕ). 4 ∷ m ∷ k.1) is ∙ ap (λ (xs : List ℕ). 4 ∷ case_number case ∷ xs) u.0.is;
+        rest_fits = u.0.rest_fits;
+      },
+      u.1,
+    ))))
 
 pub cause_took : (bytes : List ℕ) → AreBytes bytes
     → IfSome (cause_at bytes) (λ x. Took bytes (cause_text x.0 x.1) x.1 × IsCause x.0)
@@ -131,12 +133,15 @@ module_took n bytes fits e =
     bind_holds (byte_at session.1) _ _ _ (byte_took session.1 t.0.rest_fits) (λ part u.
     bind_holds (number_at w64 part.1) _ _ _ (eight_took part.1 u.0.rest_fits) (λ k v.
     bind_holds (version_of k.0) _ _ _ (version_took k.0) (λ version is.
-    rw is.0 (record {
-      is = ap (λ (k : ℕ). k ∷ bytes) e ∙ ap (λ (xs : List ℕ). 1 ∷ xs) t.0.is
-          ∙ ap (λ (xs : List ℕ). 1 ∷ four_text session.0 xs) u.0.is
-          ∙ ap (λ (xs : List ℕ). 1 ∷ four_text session.0 (part.0 ∷ xs)) v.0.is;
-      rest_fits = v.0.rest_fits;
-    }, (t.1, u.1, is.1))))))
+    rw is.0 (
+      record {
+        is = ap (λ (k : ℕ). k ∷ bytes) e ∙ ap (λ (xs : List ℕ). 1 ∷ xs) t.0.is
+            ∙ ap (λ (xs : List ℕ). 1 ∷ four_text session.0 xs) u.0.is
+            ∙ ap (λ (xs : List ℕ). 1 ∷ four_text session.0 (part.0 ∷ xs)) v.0.is;
+        rest_fits = v.0.rest_fits;
+      },
+      (t.1, u.1, is.1),
+    )))))
 
 target_took : (bytes : List ℕ) → AreBytes bytes
     → IfSome (target_at bytes) (λ x. Took bytes (target_text x.0 x.1) x.1 × IsTarget x.0)
@@ -155,10 +160,12 @@ part_took bytes fits =
     bind_holds (name_at bytes) _ _ _ (name_took bytes fits) (λ name t.
     bind_holds (number_at w64 name.1) _ _ _ (eight_took name.1 t.0.rest_fits) (λ n u.
     bind_holds (version_of_number n.0) _ _ _ (some_version_took n.0) (λ version is.
-    bind_holds (target_at n.1) _ _ _ (target_took n.1 u.0.rest_fits) (λ target v.
-    (record {
-      is = t.0.is ∙ ap (λ (xs : List ℕ). short_text name.0 xs) u.0.is
-          ∙ ap (λ (k : ℕ). short_text name.0 (eight_text k n.1)) is.0
-          ∙ ap (λ (xs : List ℕ). short_text name.0 (eight_text (version_number version) xs)) v.0.is;
-      rest_fits = v.0.rest_fits;
-    }, record { name = t.1; version = is.1; target = v.1 })))))
+    bind_holds (target_at n.1) _ _ _ (target_took n.1 u.0.rest_fits) (λ target v. (
+      record {
+        is = t.0.is ∙ ap (λ (xs : List ℕ). short_text name.0 xs) u.0.is
+            ∙ ap (λ (k : ℕ). short_text name.0 (eight_text k n.1)) is.0
+            ∙ ap (λ (xs : List ℕ). short_text name.0 (eight_text (version_number version) xs)) v.0.is;
+        rest_fits = v.0.rest_fits;
+      },
+      record { name = t.1; version = is.1; target = v.1 },
+    )))))

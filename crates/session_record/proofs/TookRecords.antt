@@ -123,36 +123,39 @@ record_took id bytes is_id fits =
     bind_holds (parts_at count.0 few.1) _ _ _ (parts_took count.0 few.1 i.0.rest_fits) (λ parts j.
     bind_holds (children_of few.0 count.0 parts.0) _ _ _
     (children_took few.0 count.0 parts.0 parts.1 j.count j.ids) (λ children k.
-    at_end_holds _ parts.1 _ (λ ended. (refl, record {
-      is_record = record {
-        id = is_id;
-        kind = b.1;
-        moment = d.1;
-        activation = e.1;
-        print = f.1;
-        cause = g.1;
-        parts = parts_are parts.0 j.parts;
-        few = omega (arith, h.1, j.count, parts_count parts.0);
-        children = k.ids;
-        count = k.as_many;
-      };
-      is_text =
-          let tail : few.1 ≡ parts_text children (parts_of parts.0) [] =
-          j.text.is ∙ k.text ∙ ap (λ (t : List ℕ). parts_text children (parts_of parts.0) t) ended in
-          let numbers : cause.1
-          ≡ length (parts_of parts.0) ∷ length children ∷ parts_text children (parts_of parts.0) [] =
-          h.0.is ∙ ap (λ (t : List ℕ). count.0 ∷ t) i.0.is
-          ∙ rw (← j.count, k.count, ← parts_count parts.0)
-          (ap (λ (t : List ℕ). length (parts_of parts.0) ∷ length children ∷ t) tail) in
-          a.is
-          ∙ ap (λ (t : List ℕ). state_number phase.0 ∷ t) (b.0.is
-          ∙ ap (λ (t : List ℕ). kind_text kind.0 t) (c.is
-          ∙ ap (λ (t : List ℕ). rollback_number rollback.0 ∷ t) (d.0.is
-          ∙ ap (λ (t : List ℕ). eight_text moment.0 t) (e.0.is
-          ∙ ap (λ (t : List ℕ). four_text activation.0 t) (f.0.is
-          ∙ ap (λ (t : List ℕ). short_text print.0 t) (g.0.is
-          ∙ ap (λ (t : List ℕ). cause_text cause.0 t) numbers))))));
-    })))))))))))))
+    at_end_holds _ parts.1 _ (λ ended. (
+      refl,
+      record {
+        is_record = record {
+          id = is_id;
+          kind = b.1;
+          moment = d.1;
+          activation = e.1;
+          print = f.1;
+          cause = g.1;
+          parts = parts_are parts.0 j.parts;
+          few = omega (arith, h.1, j.count, parts_count parts.0);
+          children = k.ids;
+          count = k.as_many;
+        };
+        is_text =
+            let tail : few.1 ≡ parts_text children (parts_of parts.0) [] =
+            j.text.is ∙ k.text ∙ ap (λ (t : List ℕ). parts_text children (parts_of parts.0) t) ended in
+            let numbers : cause.1
+            ≡ length (parts_of parts.0) ∷ length children ∷ parts_text children (parts_of parts.0) [] =
+            h.0.is ∙ ap (λ (t : List ℕ). count.0 ∷ t) i.0.is
+            ∙ rw (← j.count, k.count, ← parts_count parts.0)
+            (ap (λ (t : List ℕ). length (parts_of parts.0) ∷ length children ∷ t) tail) in
+            a.is
+            ∙ ap (λ (t : List ℕ). state_number phase.0 ∷ t) (b.0.is
+            ∙ ap (λ (t : List ℕ). kind_text kind.0 t) (c.is
+            ∙ ap (λ (t : List ℕ). rollback_number rollback.0 ∷ t) (d.0.is
+            ∙ ap (λ (t : List ℕ). eight_text moment.0 t) (e.0.is
+            ∙ ap (λ (t : List ℕ). four_text activation.0 t) (f.0.is
+            ∙ ap (λ (t : List ℕ). short_text print.0 t) (g.0.is
+            ∙ ap (λ (t : List ℕ). cause_text cause.0 t) numbers))))));
+      },
+    )))))))))))))
 
 -- What the bytes have been read as
 

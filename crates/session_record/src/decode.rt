@@ -24,11 +24,7 @@ pub fn decode_record(
     read_record(alloc, id, bytes)
 }
 
-fn read_record(
-    alloc: Global,
-    id: SessionId,
-    bytes: &[u8],
-) -> Result<Option<Record>, AllocError>
+fn read_record(alloc: Global, id: SessionId, bytes: &[u8]) -> Result<Option<Record>, AllocError>
     ensures { IfOk result (λ found. found ≡ record_of id bytes.now) }
 {
     let Some((front, rest)) = front_at(bytes) else {

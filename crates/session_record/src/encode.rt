@@ -12,7 +12,9 @@ ghost use Rattle.session_record.specs.Units.{first_id, later_children};
 
 use crate::length::record_len;
 use crate::writing::{push_byte, push_eight, push_four, push_name, push_print};
-use apex_base::{Case, Cause, Kind, Name, Part, Record, RollbackState, SessionId, State, Target, Version};
+use apex_base::{
+    Case, Cause, Kind, Name, Part, Record, RollbackState, SessionId, State, Target, Version,
+};
 use std::alloc::{AllocError, Global};
 
 /// The record's one spelling. It says nothing of the record's id.
@@ -23,7 +25,11 @@ pub fn encode_record(alloc: Global, value: &Record) -> Result<Vec<u8>, AllocErro
 {
     let mut bytes = Vec::with_capacity(alloc, record_len(value))?;
     push_front(value, &mut bytes)?;
-    push_parts(value.children.as_slice(), value.parts.as_slice(), &mut bytes)?;
+    push_parts(
+        value.children.as_slice(),
+        value.parts.as_slice(),
+        &mut bytes,
+    )?;
     Ok(bytes)
 }
 

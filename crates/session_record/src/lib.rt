@@ -7,8 +7,11 @@ mod fields;
 mod front;
 mod length;
 mod reading;
+#[cfg(test)]
+mod tests;
 mod units;
 mod writing;
 
+pub use apex_base::{Move, Record, State, moved};
 pub use decode::decode_record;
 pub use encode::encode_record;

@@ -1,13 +1,11 @@
-// A library with one function.
+//! Which module of each name a boot takes: `docs/boot.md`, "Selection".
 #![tactic(auto)]
 
-ghost use Rattle.std.specs.Prelude.{◌≡◌};
-ghost use Rattle.version_select.specs.Echo.{echo_of};
+mod candidate;
+mod laws;
+mod selection;
 
-// The `ensures` clause is the contract: what `echo` returns is `echo_of` of its argument, a definition
-// in `specs/Echo.antt`, which a caller's clause can cite too.
-pub fn echo(x: usize) -> usize
-    ensures { result ≡ echo_of x }
-{
-    x
-}
+pub use apex_base::{Pick, Place};
+pub use candidate::{Candidate, better};
+pub use laws::{nothing_usable_nothing_chosen, picks_are_one};
+pub use selection::select;

@@ -1,0 +1,80 @@
+-- The picks of what is kept, and that candidates have one list of picks.
+use Rattle.std.proofs.Common.{T, ◌≡◌, ◌⊎◌, ℕ, ◌<◌, Bool, true, false, cond, IsTrue, List, [], ◌∷◌, map, Option, Some, None, refl, sym, ap, subst, ◌∙◌, inl, inr, arith}
+use Rattle.std.specs.Prelude.{◌↔◌, IsSome}
+use Rattle.std.specs.declared.cmp.Ordering.TheVariants.{Less}
+use Rattle.std.specs.Cmp.Lexicographic.{slice_cmp, nat_list_cmp_total}
+use Rattle.std.specs.FinMap as fin
+use Rattle.std.specs.FinMap.{is_sorted, slice_cmp-IsAntisymmetric, nat_cmp-IsAntisymmetric}
+use Rattle.std.specs.FinMap.Entries.{below_all, same_entries}
+use Rattle.std.specs.List.{All, AllByRecursion, Contains}
+use Rattle.std.specs.List.Sorted.{IsStrictlySortedBy}
+use Rattle.std.specs.Map.{keys_of, lookup}
+use Rattle.std.specs.Ordering.{eq_by_cmp, nat_cmp}
+use Rattle.std.proofs.lemmas.Cmp.{eq_by_cmp_equiv}
+use Rattle.std.proofs.lemmas.List.Elements.{All-weaker, All-map, All-contains, All-contains_itself}
+use Rattle.std.proofs.lemmas.Map.Keys.{IsDistinct-from_sorted}
+use Rattle.std.proofs.lemmas.Map.Views.{tells_apart, Contains-keys_from_lookup, IsSome-lookup_from_Contains, lookup-from_Contains, Contains-from_lookup}
+use Rattle.apex_base.specs.declared.records.Pick.{Pick}
+use Rattle.apex_base.specs.declared.records.Place.{Place}
+use Rattle.apex_base.specs.declared.records.Place.TheVariants.{Data, Pre}
+use Rattle.version_select.specs.declared.candidate.Candidate.{Candidate}
+use Rattle.version_select.specs.Kept.{Entries, kept_at, IsKept, KeepsChoices, pick_of}
+use Rattle.version_select.specs.Selecting.{offered, IsBetter, IsNamed, NoneUsable, IsBest, IsChoice, names_of, ArePicks}
+use Rattle.version_select.proofs.KeptLemmas.{is_same, same_name}
+
+-- From what is kept to picks
+
+names_kept : (es : Entries) → names_of (map pick_of es) ≡ keys_of es
+names_kept [] = refl
+names_kept (e ∷ es) = ap (λ (names : List (List ℕ)). e.0 ∷ names) (names_kept es)
+
+named_kept : (candidates : List Candidate) (name : List ℕ) (kept : Option (Option (ℕ × Place)))
+    → IsKept candidates name kept → IsSome kept → IsNamed candidates name
+named_kept candidates name (Some chosen) h some = h.0
+named_kept candidates name None h some = absurd cc
+
+kept_named : (candidates : List Candidate) (name : List ℕ) (kept : Option (Option (ℕ × Place)))
+    → IsKept candidates name kept → IsNamed candidates name → IsSome kept
+kept_named candidates name (Some chosen) h named = refl
+kept_named candidates name None h named = absurd (h named)
+
+pub picks_of_kept : (candidates : List Candidate) (es : Entries) → KeepsChoices candidates es
+    → IsStrictlySortedBy (slice_cmp nat_cmp) (keys_of es) → ArePicks candidates (map pick_of es)
+picks_of_kept candidates es keeps sorted = record {
+  ascending = rw (names_kept es) sorted;
+  names = λ name. rw (names_kept es) (
+    λ among. named_kept candidates name (kept_at es name) (keeps name)
+        (IsSome-lookup_from_Contains (eq_by_cmp_equiv nat_list_cmp_total) name es among),
+    λ named. Contains-keys_from_lookup same_name name es
+        (kept_named candidates name (kept_at es name) (keeps name) named),
+  );
+  chosen = All-map (λ p. IsChoice candidates p.name p.chosen) pick_of es
+      (All-weaker (Contains es) (λ e. IsChoice candidates e.0 e.1) (λ e among.
+      let at_own : kept_at es e.0 ≡ Some e.1 =
+      lookup-from_Contains (eq_by_cmp_equiv nat_list_cmp_total) e.0 e.1 es
+      (IsDistinct-from_sorted (slice_cmp nat_cmp) (keys_of es) sorted) among in
+      (subst (IsKept candidates e.0) at_own (keeps e.0)).1) es (All-contains_itself es));
+}
+
+-- One list
+
+entry_of : Pick → List ℕ × Option (ℕ × Place)
+entry_of p = (p.name, p.chosen)
+
+entries_of : List Pick → Entries
+entries_of ps = map (λ p. (p.name, p.chosen)) ps
+
+picks_again : (ps : List Pick) → map pick_of (entries_of ps) ≡ ps
+unfolding entries_of
+picks_again [] = refl
+picks_again (p ∷ ps) = ap (λ (qs : List Pick). p ∷ qs) (picks_again ps)
+
+same_offer : (a b : ℕ × Place) → (IsBetter a b → ⊥) → (IsBetter b a → ⊥) → a ≡ b
+same_offer a b p q = ?
+
+one_choice : (candidates : List Candidate) (name : List ℕ) (a b : Option (ℕ × Place)) → IsChoice candidates name a
+    → IsChoice candidates name b → a ≡ b
+one_choice candidates name a b p q = ?
+
+pub one_list : (candidates : List Candidate) (a b : List Pick) → ArePicks candidates a → ArePicks candidates b → a ≡ b
+one_list candidates a b p q = ?
