@@ -55,26 +55,3 @@ picks_of_kept candidates es keeps sorted = record {
       (IsDistinct-from_sorted (slice_cmp nat_cmp) (keys_of es) sorted) among in
       (subst (IsKept candidates e.0) at_own (keeps e.0)).1) es (All-contains_itself es));
 }
-
--- One list
-
-entry_of : Pick → List ℕ × Option (ℕ × Place)
-entry_of p = (p.name, p.chosen)
-
-entries_of : List Pick → Entries
-entries_of ps = map (λ p. (p.name, p.chosen)) ps
-
-picks_again : (ps : List Pick) → map pick_of (entries_of ps) ≡ ps
-unfolding entries_of
-picks_again [] = refl
-picks_again (p ∷ ps) = ap (λ (qs : List Pick). p ∷ qs) (picks_again ps)
-
-same_offer : (a b : ℕ × Place) → (IsBetter a b → ⊥) → (IsBetter b a → ⊥) → a ≡ b
-same_offer a b p q = ?
-
-one_choice : (candidates : List Candidate) (name : List ℕ) (a b : Option (ℕ × Place)) → IsChoice candidates name a
-    → IsChoice candidates name b → a ≡ b
-one_choice candidates name a b p q = ?
-
-pub one_list : (candidates : List Candidate) (a b : List Pick) → ArePicks candidates a → ArePicks candidates b → a ≡ b
-one_list candidates a b p q = ?
