@@ -33,25 +33,31 @@ true_false b e f = let both : true ≡ false = sym e ∙ f in absurd cc
 pub choice_stays : (seen : List Candidate) (c : Candidate) (before : Option (ℕ × Place)) → c.usable ≡ false
     → IsChoice seen c.name before → IsChoice (seen ++ c ∷ []) c.name before
 choice_stays seen c None not_usable h = All-push (NotUsable c.name) seen c h (λ _. not_usable)
-choice_stays seen c (Some best) not_usable (d, h, e) =
-    (d, record {
-      among = Contains-append_left seen (c ∷ []) d h.among;
-      named = h.named;
-      usable = h.usable;
-      unbeaten = All-push (Unbeaten c.name d) seen c h.unbeaten (λ _ usable _. true_false c.usable usable not_usable);
-    }, e)
+choice_stays seen c (Some best) not_usable (d, h, e) = (
+  d,
+  record {
+    among = Contains-append_left seen (c ∷ []) d h.among;
+    named = h.named;
+    usable = h.usable;
+    unbeaten = All-push (Unbeaten c.name d) seen c h.unbeaten (λ _ usable _. true_false c.usable usable not_usable);
+  },
+  e,
+)
 
 -- a usable one that is better than all usable ones before it
 newest : (seen : List Candidate) (c : Candidate) → c.usable ≡ true
     → All (Unbeaten c.name c) seen
     → IsChoice (seen ++ c ∷ []) c.name (Some (offered c))
-newest seen c usable h =
-    (c, record {
-      among = Contains-push seen c;
-      named = refl;
-      usable = usable;
-      unbeaten = All-push (Unbeaten c.name c) seen c h (λ _ _ better. not_itself (offered c) better);
-    }, refl)
+newest seen c usable h = (
+  c,
+  record {
+    among = Contains-push seen c;
+    named = refl;
+    usable = usable;
+    unbeaten = All-push (Unbeaten c.name c) seen c h (λ _ _ better. not_itself (offered c) better);
+  },
+  refl,
+)
 
 -- the first usable one of its name
 choice_begins : (seen : List Candidate) (c : Candidate) → c.usable ≡ true → IsChoice seen c.name None
@@ -79,11 +85,14 @@ choice_changes seen c (Some best) usable better h = better_choice seen c best us
 pub choice_holds : (seen : List Candidate) (c : Candidate) (before : Option (ℕ × Place))
     → (Improves c before → ⊥) → IsChoice seen c.name before → IsChoice (seen ++ c ∷ []) c.name before
 choice_holds seen c None worse h = absurd (worse tt)
-choice_holds seen c (Some best) worse (e, h, is) =
-    (e, record {
-      among = Contains-append_left seen (c ∷ []) e h.among;
-      named = h.named;
-      usable = h.usable;
-      unbeaten = All-push (Unbeaten c.name e) seen c h.unbeaten
-          (λ _ _ better. worse (subst (λ (b : ℕ × Place). IsBetter (offered c) b) is better));
-    }, is)
+choice_holds seen c (Some best) worse (e, h, is) = (
+  e,
+  record {
+    among = Contains-append_left seen (c ∷ []) e h.among;
+    named = h.named;
+    usable = h.usable;
+    unbeaten = All-push (Unbeaten c.name e) seen c h.unbeaten
+        (λ _ _ better. worse (subst (λ (b : ℕ × Place). IsBetter (offered c) b) is better));
+  },
+  is,
+)

@@ -39,14 +39,17 @@ choice_besides : (seen : List Candidate) (c : Candidate) (name : List ℕ) (chos
     → (c.name ≡ name → ⊥) → IsChoice seen name chosen → IsChoice (seen ++ c ∷ []) name chosen
 choice_besides seen c name None other h =
     All-push (λ d. d.name ≡ name → d.usable ≡ false) seen c h (λ named. absurd (other named))
-choice_besides seen c name (Some best) other (e, h, is) =
-    (e, record {
-      among = Contains-append_left seen (c ∷ []) e h.among;
-      named = h.named;
-      usable = h.usable;
-      unbeaten = All-push (λ d. d.name ≡ name → d.usable ≡ true → IsBetter (offered d) (offered e) → ⊥) seen c
-          h.unbeaten (λ named _ _. other named);
-    }, is)
+choice_besides seen c name (Some best) other (e, h, is) = (
+  e,
+  record {
+    among = Contains-append_left seen (c ∷ []) e h.among;
+    named = h.named;
+    usable = h.usable;
+    unbeaten = All-push (λ d. d.name ≡ name → d.usable ≡ true → IsBetter (offered d) (offered e) → ⊥) seen c
+        h.unbeaten (λ named _ _. other named);
+  },
+  is,
+)
 
 kept_besides : (seen : List Candidate) (c : Candidate) (name : List ℕ) (kept : Option (Option (ℕ × Place)))
     → (c.name ≡ name → ⊥) → IsKept seen name kept → IsKept (seen ++ c ∷ []) name kept

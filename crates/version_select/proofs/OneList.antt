@@ -25,7 +25,7 @@ use Rattle.version_select.proofs.KeptLemmas.{same_name}
 -- Choices
 
 not_above : (a b : ℕ × Place) → (IsBetter a b → ⊥) → a.0 ≤ b.0
-not_above a b worse = elim (cases_lt b.0 a.0) [ | inl lt ↦ absurd (worse (inl lt)) | inr le ↦ le ]
+not_above a b worse = elim (cases_lt b.0 a.0) [ inl lt ↦ absurd (worse (inl lt)) | inr le ↦ le ]
 
 same_place : (x y : Place) → ((x ≡ Data) × (y ≢ Data) → ⊥) → ((y ≡ Data) × (x ≢ Data) → ⊥) → x ≡ y
 same_place Data Data p q = refl
@@ -100,8 +100,7 @@ picks_keep candidates ps h name = by_entry (kept_at (entries_of ps) name) refl
     by_entry (Some chosen) e =
         let some : IsSome (kept_at (entries_of ps) name) = rw e refl in
         let key = Contains-keys_from_lookup same_name name (entries_of ps) some in
-        let own = Contains-from_lookup same_name name chosen (entries_of ps) e in
-        (
+        let own = Contains-from_lookup same_name name chosen (entries_of ps) e in (
           (h.names name).0 (rw (keys_are_names ps) at key),
           All-contains (λ x. IsChoice candidates x.0 x.1) (entries_of ps) (name, chosen)
               (All-map (λ x. IsChoice candidates x.0 x.1) entry_of ps h.chosen) own,

@@ -4,6 +4,8 @@
 mod candidate;
 mod laws;
 mod selection;
+#[cfg(test)]
+mod tests;
 
 pub use apex_base::{Pick, Place};
 pub use candidate::{Candidate, better};

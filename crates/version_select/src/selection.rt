@@ -48,7 +48,10 @@ fn choice_at(choices: &Choices, name: &Name) -> Option<(Version, Place)>
 }
 
 /// The choice after one candidate more of this name.
-fn better_choice(before: Option<(Version, Place)>, candidate: &Candidate) -> Option<(Version, Place)>
+fn better_choice(
+    before: Option<(Version, Place)>,
+    candidate: &Candidate,
+) -> Option<(Version, Place)>
     ensures { (seen : List Candidate) → IsChoice seen candidate.now.name before
         → IsChoice (seen ++ candidate.now ∷ []) candidate.now.name result }
 {
