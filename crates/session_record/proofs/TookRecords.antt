@@ -29,7 +29,9 @@ record TookParts (n : ℕ) (bytes : List ℕ) (xs : List (ℕ × Part)) (rest : 
 parts_took : (n : ℕ) (bytes : List ℕ) → AreBytes bytes
     → IfSome (parts_at n bytes) (λ x. TookParts n bytes x.0 x.1)
 unfolding parts_at
-parts_took zero bytes fits = record { count = refl; text = record { is = refl; rest_fits = fits }; ids = tt; parts = tt }
+parts_took zero bytes fits =
+    let text : Took bytes bytes bytes = record { is = refl; rest_fits = fits } in
+    record { count = refl; text = text; ids = tt; parts = tt }
 parts_took (suc n) bytes fits =
     bind_holds (number_at w32 bytes) _ _ _ (four_took bytes fits) (λ id t.
     bind_holds (part_at id.1) _ _ _ (part_took id.1 t.0.rest_fits) (λ part u.
@@ -157,12 +159,18 @@ record_took id bytes is_id fits =
       },
     )))))))))))))
 
+pub read_is_spelled : (id : SessionId) (bytes : List ℕ) (r : Record) → IsId id → AreBytes bytes
+    → record_of id bytes ≡ Some r → (r.id ≡ id) × Spells bytes r
+read_is_spelled id bytes r is_id fits e =
+    subst (λ (o : Option Record). IfSome o (λ r. (r.id ≡ id) × Spells bytes r)) e (record_took id bytes is_id fits)
+
 -- What the bytes have been read as
 
 pub is_found : (id : SessionId) (bytes : List ℕ) (found : Option Record) → IsId id → AreBytes bytes
     → found ≡ record_of id bytes → IfSome found (λ r. (r.id ≡ id) × Spells bytes r)
 is_found id bytes found is_id fits e =
-    subst (λ (o : Option Record). IfSome o (λ r. (r.id ≡ id) × Spells bytes r)) (sym e) (record_took id bytes is_id fits)
+    subst (λ (o : Option Record). IfSome o (λ r. (r.id ≡ id) × Spells bytes r)) (sym e)
+    (record_took id bytes is_id fits)
 
 pub is_none : (id : SessionId) (bytes : List ℕ) (found : Option Record) → found ≡ record_of id bytes
     → IfNone found ((r : Record) → r.id ≡ id → Spells bytes r → ⊥)

@@ -5,6 +5,7 @@ mod decode;
 mod encode;
 mod fields;
 mod front;
+mod laws;
 mod length;
 mod reading;
 #[cfg(test)]
@@ -15,3 +16,4 @@ mod writing;
 pub use apex_base::{Move, Record, State, moved};
 pub use decode::decode_record;
 pub use encode::encode_record;
+pub use laws::spelling_undoes_reading;

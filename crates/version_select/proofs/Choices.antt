@@ -64,7 +64,8 @@ choice_begins : (seen : List Candidate) (c : Candidate) → c.usable ≡ true �
     → IsChoice (seen ++ c ∷ []) c.name (Some (offered c))
 choice_begins seen c usable h =
     newest seen c usable
-    (All-weaker (NotUsable c.name) (Unbeaten c.name c) (λ d none named d_usable _. true_false d.usable d_usable (none named)) seen h)
+    (All-weaker (NotUsable c.name) (Unbeaten c.name c)
+    (λ d none named d_usable _. true_false d.usable d_usable (none named)) seen h)
 
 -- one that is better than the best so far
 better_choice : (seen : List Candidate) (c : Candidate) (best : ℕ × Place) → c.usable ≡ true

@@ -22,6 +22,11 @@ same_name a b e = tells_apart {R = slice_cmp nat_cmp} (slice_cmp-IsAntisymmetric
 pub is_itself : (a : List ℕ) → is_same a a ≡ true
 is_itself a = (eq_by_cmp_equiv nat_list_cmp_total).refl a
 
+pub other_name : (a b : List ℕ) → is_same a b ≡ false → a ≡ b → ⊥
+other_name a b e is =
+    let itself : is_same a b ≡ true = subst (λ (name : List ℕ). is_same a name ≡ true) is (is_itself a) in
+    let both : true ≡ false = sym itself ∙ e in absurd cc
+
 -- nothing was seen
 pub keeps_nothing : KeepsChoices [] []
 keeps_nothing name = λ named. omega (arith, named.1.1)
@@ -62,7 +67,10 @@ kept_besides seen c name None other h = λ named. unnamed named
           | inr last ↦ other (ap (λ (x : Candidate). x.name) last ∙ is)
         ]
 kept_besides seen c name (Some chosen) other (named, choice) =
-    ((named.0, Contains-append_left seen (c ∷ []) named.0 named.1, named.2), choice_besides seen c name chosen other choice)
+    (
+      (named.0, Contains-append_left seen (c ∷ []) named.0 named.1, named.2),
+      choice_besides seen c name chosen other choice,
+    )
 
 -- one candidate more
 pub kept_more : (seen : List Candidate) (c : Candidate) (before after : Entries) (chosen : Option (ℕ × Place))
@@ -77,10 +85,7 @@ kept_more seen c before after chosen updates improves keeps name =
     by_name true e =
         subst (λ (n : List ℕ). IsKept (seen ++ c ∷ []) n (Some chosen)) (same_name c.name name e)
         ((c, Contains-push seen c, refl), improves (kept_choice seen c.name (kept_at before c.name) (keeps c.name)))
-    by_name false e =
-        kept_besides seen c name (kept_at before name)
-        (λ is. let both : true ≡ false = sym (subst (λ (n : List ℕ). is_same c.name n ≡ true) is (is_itself c.name)) ∙ e in
-        absurd cc) (keeps name)
+    by_name false e = kept_besides seen c name (kept_at before name) (other_name c.name name e) (keeps name)
 
 pub seen_more : (candidates : List Candidate) (i : ℕ) (c : Candidate) → i < length candidates
     → c ≡ get_or candidates i c → take (i + 1) candidates ≡ take i candidates ++ c ∷ []

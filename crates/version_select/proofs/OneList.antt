@@ -95,7 +95,8 @@ picks_keep candidates ps h name = by_entry (kept_at (entries_of ps) name) refl
         let some : IsSome (kept_at (entries_of ps) name) =
         IsSome-lookup_from_Contains (eq_by_cmp_equiv nat_list_cmp_total) name (entries_of ps)
         (rw (keys_are_names ps) ((h.names name).1 named)) in
-        let none : IsSome {T = Option (ℕ × Place)} None = subst (λ (o : Option (Option (ℕ × Place))). IsSome o) e some in
+        let none : IsSome {T = Option (ℕ × Place)} None =
+        subst (λ (o : Option (Option (ℕ × Place))). IsSome o) e some in
         absurd cc
     by_entry (Some chosen) e =
         let some : IsSome (kept_at (entries_of ps) name) = rw e refl in
@@ -116,7 +117,8 @@ below : (name : List ℕ) (es : Entries) → AllByRecursion (λ q. slice_cmp nat
 below name [] all = refl
 below name (e ∷ es) all = rw all.0 (below name es all.1)
 
-sorted : (es : Entries) → IsStrictlySortedBy (slice_cmp nat_cmp) (keys_of es) → IsTrue (is_sorted (slice_cmp nat_cmp) es)
+sorted : (es : Entries) → IsStrictlySortedBy (slice_cmp nat_cmp) (keys_of es)
+    → IsTrue (is_sorted (slice_cmp nat_cmp) es)
 unfolding IsStrictlySortedBy
 sorted [] s = refl
 sorted (e ∷ es) s = rw (below e.0 es s.0) (sorted es s.1)

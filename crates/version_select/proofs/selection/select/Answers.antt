@@ -9,6 +9,7 @@ pub returns : goal.returns
 returns c =
     let candidates = c.args.candidates.now in
     let entries = c.in_ok-choices.choices.entries in
-    IfOk-weaker c.picks_of.result (λ picks. picks.items ≡ map pick_of entries) (λ picks. ArePicks candidates picks.items)
+    IfOk-weaker c.picks_of.result (λ picks. picks.items ≡ map pick_of entries)
+    (λ picks. ArePicks candidates picks.items)
     (λ picks e. subst (ArePicks candidates) (sym e)
     (picks_of_kept candidates entries c.in_ok-choices.ensures c.picks_of.ensures.ascending)) c.picks_of.ensures.picks
