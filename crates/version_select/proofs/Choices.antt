@@ -30,7 +30,7 @@ true_false : (b : Bool) → b ≡ true → b ≡ false → ⊥
 true_false b e f = let both : true ≡ false = sym e ∙ f in absurd cc
 
 -- a candidate that isn't usable changes nothing
-pub choice_stays : (seen : List Candidate) (c : Candidate) (before : Option (ℕ × Place)) → c.usable ≡ false
+choice_stays : (seen : List Candidate) (c : Candidate) (before : Option (ℕ × Place)) → c.usable ≡ false
     → IsChoice seen c.name before → IsChoice (seen ++ c ∷ []) c.name before
 choice_stays seen c None not_usable h = All-push (NotUsable c.name) seen c h (λ _. not_usable)
 choice_stays seen c (Some best) not_usable (d, h, e) = (
@@ -77,23 +77,31 @@ better_choice seen c best usable better (e, h, is) =
     (All-weaker (Unbeaten c.name e) (Unbeaten c.name c) (λ d unbeaten named d_usable more.
     unbeaten named d_usable (still_better (offered d) (offered c) (offered e) more over)) seen h.unbeaten)
 
-pub choice_changes : (seen : List Candidate) (c : Candidate) (before : Option (ℕ × Place)) → c.usable ≡ true
-    → Improves c before → IsChoice seen c.name before → IsChoice (seen ++ c ∷ []) c.name (Some (offered c))
-choice_changes seen c None usable better h = choice_begins seen c usable h
-choice_changes seen c (Some best) usable better h = better_choice seen c best usable better h
+pub choice_changes : (seen : List Candidate) (c : Candidate) (before : Option (ℕ × Place)) → Improves c before
+    → IsChoice seen c.name before → IsChoice (seen ++ c ∷ []) c.name (Some (offered c))
+choice_changes seen c None usable h = choice_begins seen c usable h
+choice_changes seen c (Some best) (usable, better) h = better_choice seen c best usable better h
 
--- one that isn't
-pub choice_holds : (seen : List Candidate) (c : Candidate) (before : Option (ℕ × Place))
+worse_choice : (seen : List Candidate) (c : Candidate) (before : Option (ℕ × Place)) → c.usable ≡ true
     → (Improves c before → ⊥) → IsChoice seen c.name before → IsChoice (seen ++ c ∷ []) c.name before
-choice_holds seen c None worse h = absurd (worse tt)
-choice_holds seen c (Some best) worse (e, h, is) = (
+worse_choice seen c None usable worse h = absurd (worse usable)
+worse_choice seen c (Some best) usable worse (e, h, is) = (
   e,
   record {
     among = Contains-append_left seen (c ∷ []) e h.among;
     named = h.named;
     usable = h.usable;
     unbeaten = All-push (Unbeaten c.name e) seen c h.unbeaten
-        (λ _ _ better. worse (subst (λ (b : ℕ × Place). IsBetter (offered c) b) is better));
+        (λ _ _ better. worse (usable, subst (λ (b : ℕ × Place). IsBetter (offered c) b) is better));
   },
   is,
 )
+
+-- one that isn't
+pub choice_holds : (seen : List Candidate) (c : Candidate) (before : Option (ℕ × Place))
+    → (Improves c before → ⊥) → IsChoice seen c.name before → IsChoice (seen ++ c ∷ []) c.name before
+choice_holds seen c before worse h = by_usable c.usable refl
+  where
+    by_usable : (usable : Bool) → c.usable ≡ usable → IsChoice (seen ++ c ∷ []) c.name before
+    by_usable true e = worse_choice seen c before e worse h
+    by_usable false e = choice_stays seen c before e h

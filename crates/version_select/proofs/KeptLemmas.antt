@@ -66,11 +66,10 @@ kept_besides seen c name None other h = λ named. unnamed named
           | inl before ↦ h (d, before, is)
           | inr last ↦ other (ap (λ (x : Candidate). x.name) last ∙ is)
         ]
-kept_besides seen c name (Some chosen) other (named, choice) =
-    (
-      (named.0, Contains-append_left seen (c ∷ []) named.0 named.1, named.2),
-      choice_besides seen c name chosen other choice,
-    )
+kept_besides seen c name (Some chosen) other (named, choice) = (
+  (named.0, Contains-append_left seen (c ∷ []) named.0 named.1, named.2),
+  choice_besides seen c name chosen other choice,
+)
 
 -- one candidate more
 pub kept_more : (seen : List Candidate) (c : Candidate) (before after : Entries) (chosen : Option (ℕ × Place))

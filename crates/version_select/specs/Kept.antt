@@ -1,5 +1,5 @@
 -- What is kept of the candidates that were seen, by name.
-use Rattle.std.specs.Prelude.{ℕ, List, map, Option, Some, None}
+use Rattle.std.specs.Prelude.{◌≡◌, ℕ, true, List, map, Option, Some, None}
 use Rattle.std.specs.Cmp.Lexicographic.{slice_cmp}
 use Rattle.std.specs.Map.{lookup}
 use Rattle.std.specs.Ordering.{is_eq, nat_cmp}
@@ -29,10 +29,10 @@ abbrev pub flat : Option (Option (ℕ × Place)) → Option (ℕ × Place)
 flat None = None
 flat (Some chosen) = chosen
 
--- whether a candidate is better than the choice so far
+-- whether a candidate is usable and better than the choice so far
 abbrev pub Improves : Candidate → Option (ℕ × Place) → Type 0
-Improves c None = Unit {0}
-Improves c (Some best) = IsBetter (offered c) best
+Improves c None = c.usable ≡ true
+Improves c (Some best) = (c.usable ≡ true) × IsBetter (offered c) best
 
 abbrev pub pick_of : List ℕ × Option (ℕ × Place) → Pick
 pick_of e = record { name = e.0; chosen = e.1 }

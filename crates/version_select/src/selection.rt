@@ -55,9 +55,6 @@ fn better_choice(
     ensures { (seen : List Candidate) → IsChoice seen candidate.now.name before
         → IsChoice (seen ++ candidate.now ∷ []) candidate.now.name result }
 {
-    if !candidate.usable {
-        return before;
-    }
     if improves(candidate, &before) {
         Some((candidate.version, candidate.place))
     } else {
@@ -65,13 +62,15 @@ fn better_choice(
     }
 }
 
-/// Whether the candidate is better than what is best so far.
+/// Whether the candidate is usable and better than what is best so far.
 fn improves(candidate: &Candidate, before: &Option<(Version, Place)>) -> bool
     ensures { IsTrue result ↔ Improves candidate.now before.now }
 {
     match before {
-        None => true,
-        Some((version, place)) => is_better(candidate.version, candidate.place, *version, *place),
+        None => candidate.usable,
+        Some((version, place)) => {
+            candidate.usable && is_better(candidate.version, candidate.place, *version, *place)
+        }
     }
 }
 
