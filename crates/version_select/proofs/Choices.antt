@@ -1,12 +1,11 @@
 -- How a choice changes by one candidate more.
-use Rattle.std.proofs.Common.{◌≡◌, ℕ, ◌<◌, Bool, true, false, List, [], ◌∷◌, ◌++◌, Option, Some, None, refl, sym, ap, subst, ◌∙◌, inl, inr, arith}
-use Rattle.std.specs.List.{All, Contains}
-use Rattle.std.proofs.lemmas.List.Elements.{All-push, All-weaker, All-contains, Contains-push, Contains-append_left}
+use Rattle.std.proofs.Common.{◌≡◌, ℕ, Bool, true, false, List, [], ◌∷◌, ◌++◌, Option, Some, None, refl, sym, subst, ◌∙◌, inl, inr, arith}
+use Rattle.std.specs.List.{All}
+use Rattle.std.proofs.lemmas.List.Elements.{All-push, All-weaker, Contains-push, Contains-append_left}
 use Rattle.apex_base.specs.declared.records.Place.{Place}
-use Rattle.apex_base.specs.declared.records.Place.TheVariants.{Data, Pre}
 use Rattle.version_select.specs.declared.candidate.Candidate.{Candidate}
 use Rattle.version_select.specs.Kept.{Improves}
-use Rattle.version_select.specs.Selecting.{offered, IsBetter, IsNamed, NoneUsable, IsBest, IsChoice}
+use Rattle.version_select.specs.Selecting.{offered, IsBetter, IsChoice}
 
 -- nothing is better than itself
 not_itself : (a : ℕ × Place) → IsBetter a a → ⊥

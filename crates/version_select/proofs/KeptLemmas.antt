@@ -1,8 +1,8 @@
 -- What is kept of the candidates that were seen.
-use Rattle.std.proofs.Common.{◌≡◌, ℕ, ◌+◌, ◌<◌, Bool, true, false, cond, List, [], ◌∷◌, ◌++◌, length, get_or, take, map, Option, Some, None, refl, sym, ap, subst, ◌∙◌, inl, inr, arith}
+use Rattle.std.proofs.Common.{◌≡◌, ℕ, ◌+◌, ◌<◌, Bool, true, false, cond, List, [], ◌∷◌, ◌++◌, length, get_or, take, Option, Some, None, refl, sym, ap, subst, ◌∙◌, inl, inr, arith}
 use Rattle.std.specs.Cmp.Lexicographic.{slice_cmp, nat_list_cmp_total}
 use Rattle.std.specs.FinMap.{slice_cmp-IsAntisymmetric, nat_cmp-IsAntisymmetric}
-use Rattle.std.specs.List.{All, Contains}
+use Rattle.std.specs.List.{Contains}
 use Rattle.std.specs.Ordering.{eq_by_cmp, nat_cmp}
 use Rattle.std.proofs.lemmas.Cmp.{eq_by_cmp_equiv}
 use Rattle.std.proofs.lemmas.List.{take_more}
@@ -11,7 +11,7 @@ use Rattle.std.proofs.lemmas.Map.Views.{tells_apart}
 use Rattle.apex_base.specs.declared.records.Place.{Place}
 use Rattle.version_select.specs.declared.candidate.Candidate.{Candidate}
 use Rattle.version_select.specs.Kept.{Entries, kept_at, IsKept, KeepsChoices, flat}
-use Rattle.version_select.specs.Selecting.{offered, IsBetter, IsNamed, NoneUsable, IsBest, IsChoice}
+use Rattle.version_select.specs.Selecting.{offered, IsBetter, IsNamed, IsChoice}
 
 abbrev pub is_same : List ℕ → List ℕ → Bool
 is_same a b = eq_by_cmp (slice_cmp nat_cmp) a b

@@ -1,26 +1,20 @@
 -- The picks of what is kept, and that candidates have one list of picks.
-use Rattle.std.proofs.Common.{T, ◌≡◌, ◌⊎◌, ℕ, ◌<◌, Bool, true, false, cond, IsTrue, List, [], ◌∷◌, map, Option, Some, None, refl, sym, ap, subst, ◌∙◌, inl, inr, arith}
-use Rattle.std.specs.Prelude.{◌↔◌, IsSome}
-use Rattle.std.specs.declared.cmp.Ordering.TheVariants.{Less}
+use Rattle.std.proofs.Common.{◌≡◌, ℕ, List, [], ◌∷◌, map, Option, Some, None, refl, ap, subst}
+use Rattle.std.specs.Prelude.{IsSome}
 use Rattle.std.specs.Cmp.Lexicographic.{slice_cmp, nat_list_cmp_total}
-use Rattle.std.specs.FinMap as fin
-use Rattle.std.specs.FinMap.{is_sorted, slice_cmp-IsAntisymmetric, nat_cmp-IsAntisymmetric}
-use Rattle.std.specs.FinMap.Entries.{below_all, same_entries}
-use Rattle.std.specs.List.{All, AllByRecursion, Contains}
+use Rattle.std.specs.List.{Contains}
 use Rattle.std.specs.List.Sorted.{IsStrictlySortedBy}
-use Rattle.std.specs.Map.{keys_of, lookup}
-use Rattle.std.specs.Ordering.{eq_by_cmp, nat_cmp}
+use Rattle.std.specs.Map.{keys_of}
+use Rattle.std.specs.Ordering.{nat_cmp}
 use Rattle.std.proofs.lemmas.Cmp.{eq_by_cmp_equiv}
-use Rattle.std.proofs.lemmas.List.Elements.{All-weaker, All-map, All-contains, All-contains_itself}
+use Rattle.std.proofs.lemmas.List.Elements.{All-weaker, All-map, All-contains_itself}
 use Rattle.std.proofs.lemmas.Map.Keys.{IsDistinct-from_sorted}
-use Rattle.std.proofs.lemmas.Map.Views.{tells_apart, Contains-keys_from_lookup, IsSome-lookup_from_Contains, lookup-from_Contains, Contains-from_lookup}
-use Rattle.apex_base.specs.declared.records.Pick.{Pick}
+use Rattle.std.proofs.lemmas.Map.Views.{Contains-keys_from_lookup, IsSome-lookup_from_Contains, lookup-from_Contains}
 use Rattle.apex_base.specs.declared.records.Place.{Place}
-use Rattle.apex_base.specs.declared.records.Place.TheVariants.{Data, Pre}
 use Rattle.version_select.specs.declared.candidate.Candidate.{Candidate}
 use Rattle.version_select.specs.Kept.{Entries, kept_at, IsKept, KeepsChoices, pick_of}
-use Rattle.version_select.specs.Selecting.{offered, IsBetter, IsNamed, NoneUsable, IsBest, IsChoice, names_of, ArePicks}
-use Rattle.version_select.proofs.KeptLemmas.{is_same, same_name}
+use Rattle.version_select.specs.Selecting.{IsNamed, IsChoice, names_of, ArePicks}
+use Rattle.version_select.proofs.KeptLemmas.{same_name}
 
 -- From what is kept to picks
 

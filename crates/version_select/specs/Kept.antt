@@ -1,5 +1,5 @@
 -- What is kept of the candidates that were seen, by name.
-use Rattle.std.specs.Prelude.{◌≡◌, ℕ, true, List, map, Option, Some, None}
+use Rattle.std.specs.Prelude.{◌≡◌, ℕ, true, List, Option, Some, None}
 use Rattle.std.specs.Cmp.Lexicographic.{slice_cmp}
 use Rattle.std.specs.Map.{lookup}
 use Rattle.std.specs.Ordering.{is_eq, nat_cmp}

@@ -1,5 +1,5 @@
-use Rattle.std.proofs.Common.{◌≡◌, take}
-use Rattle.version_select.proofs.KeptLemmas.{keeps_nothing, kept_more, seen_more}
+use Rattle.std.proofs.Common.{take}
+use Rattle.version_select.proofs.KeptLemmas.{kept_more, seen_more}
 use Rattle.version_select.proofs.selection.choices_of.Goals as goal
 
 pub loop-candidate-preserved : goal.loop-candidate-preserved
