@@ -1,15 +1,13 @@
 -- A record is read by its front and its parts.
-use Rattle.std.proofs.Common.{◌≡◌, ℕ, zero, suc, ◌&&◌, Bool, true, false, cond, eqb, List, [], ◌∷◌, map, Option, Some, None, refl, sym, ap, ◌∙◌}
+use Rattle.std.proofs.Common.{◌≡◌, ℕ, List, map, Option, Some, None, refl, sym, ap, ◌∙◌}
 use Rattle.std.specs.Int.{w32}
-use Rattle.std.specs.List.{list_all}
 use Rattle.apex_base.specs.declared.numbers.SessionId.{SessionId}
 use Rattle.apex_base.specs.declared.records.Part.{Part}
 use Rattle.apex_base.specs.declared.records.Record.{Record}
 use Rattle.apex_base.specs.Reading.{◌>>=◌, byte_at, number_at, at_end}
-use Rattle.apex_base.specs.Spelling.{state_at, kind_at, rollback_at, moment_at, print_at, cause_at, part_at, parts_at, children_of, record_of}
+use Rattle.apex_base.specs.Spelling.{state_at, kind_at, rollback_at, moment_at, print_at, cause_at, parts_at, children_of, record_of}
 use Rattle.session_record.specs.declared.front.Front.{Front}
 use Rattle.session_record.specs.Front.{front_at}
-use Rattle.session_record.specs.Units.{child_of, unit_at, with_child, units_at}
 use Rattle.session_record.proofs.Steps.{bind_then}
 
 abbrev pub record_with : SessionId → Front → List SessionId × List Part → Record

@@ -1,5 +1,5 @@
 -- How long short texts are.
-use Rattle.std.proofs.Common.{ℕ, ◌≤◌, Bool, true, ◌&&◌, IsTrue, List, length}
+use Rattle.std.proofs.Common.{ℕ, ◌≤◌, Bool, IsTrue, List, length}
 use Rattle.std.proofs.lemmas.Bool.{leb-true}
 use Rattle.apex_base.specs.Text.{is_short_text, is_name, is_print}
 use Rattle.session_record.proofs.Took.{both}

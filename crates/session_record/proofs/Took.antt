@@ -1,13 +1,13 @@
 -- Numbers and short texts: what was read is spelled so.
 use Rattle.std.proofs.Common.{◌≡◌, ℕ, ◌^◌, ◌<◌, ◌≤◌, ◌&&◌, Bool, true, false, cond, eqb, ltb, leb, IsTrue, List, [], ◌∷◌, ◌++◌, length, take, drop, Option, Some, None, refl, sym, ap, subst, ◌∙◌, arith}
 use Rattle.std.specs.Prelude.{IfSome}
-use Rattle.std.specs.Int.{Width, w32, w64, byte_len, from_be_bytes, to_be_bytes}
+use Rattle.std.specs.Int.{w32, w64, from_be_bytes, to_be_bytes}
 use Rattle.std.proofs.lemmas.Bool.{eqb-true, leb-true, ltb-false}
 use Rattle.std.proofs.lemmas.List.{take-append-drop, length-take}
 use Rattle.std.proofs.lemmas.Nat.{be_bytes_4, be_bytes_8}
 use Rattle.apex_base.specs.Numbers.{version_of, millis_of}
 use Rattle.apex_base.specs.Ranges.{IsVersion, IsMillis}
-use Rattle.apex_base.specs.Reading.{◌>>=◌, byte_at, bytes_at, number_at, four_text, eight_text, short_text, short_at}
+use Rattle.apex_base.specs.Reading.{byte_at, bytes_at, number_at, four_text, eight_text, short_text, short_at}
 use Rattle.apex_base.specs.Spelling.{name_at, print_at, moment_at, version_number, version_of_number}
 use Rattle.apex_base.specs.Text.{is_name, is_print, name_of, print_of}
 use Rattle.session_record.proofs.Steps.{bind_holds, AreBytes, AreBytes-drop, AreBytes-take, AreBytes-rest, Took}

@@ -1,25 +1,17 @@
 -- States, kinds, causes and parts: what was read is spelled so.
-use Rattle.std.proofs.Common.{◌≡◌, ℕ, zero, suc, ◌^◌, ◌<◌, Bool, true, false, cond, eqb, IsTrue, List, [], ◌∷◌, ◌++◌, length, map, Option, Some, None, refl, sym, ap, subst, ◌∙◌, arith}
+use Rattle.std.proofs.Common.{◌≡◌, ℕ, ◌^◌, ◌<◌, eqb, List, [], ◌∷◌, Some, None, refl, ap, ◌∙◌}
 use Rattle.std.specs.Prelude.{IfSome}
 use Rattle.std.specs.Int.{w32, w64}
 use Rattle.std.proofs.lemmas.Bool.{eqb-true}
-use Rattle.apex_base.specs.declared.numbers.SessionId.{SessionId}
-use Rattle.apex_base.specs.declared.records.Case.{Case}
 use Rattle.apex_base.specs.declared.records.Case.TheVariants.{NotInImage, BelowPreinstalled, KeyDiffers, Unsound, NoMount}
-use Rattle.apex_base.specs.declared.records.Cause.{Cause}
 use Rattle.apex_base.specs.declared.records.Cause.TheVariants as causes
-use Rattle.apex_base.specs.declared.records.Kind.{Kind}
 use Rattle.apex_base.specs.declared.records.Kind.TheVariants.{Plain, WithRollback, RollbackOf}
-use Rattle.apex_base.specs.declared.records.Part.{Part}
-use Rattle.apex_base.specs.declared.records.RollbackState.{RollbackState}
 use Rattle.apex_base.specs.declared.records.RollbackState.TheVariants.{Enabling, Available, Committed, Deleted}
-use Rattle.apex_base.specs.declared.records.State.{State}
 use Rattle.apex_base.specs.declared.records.State.TheVariants as state
-use Rattle.apex_base.specs.declared.records.Target.{Target}
 use Rattle.apex_base.specs.declared.records.Target.TheVariants as targets
 use Rattle.apex_base.specs.Moves.{state_number}
 use Rattle.apex_base.specs.Numbers.{version_of}
-use Rattle.apex_base.specs.Reading.{◌>>=◌, byte_at, number_at, four_text, eight_text, short_text}
+use Rattle.apex_base.specs.Reading.{byte_at, number_at, four_text, eight_text, short_text}
 use Rattle.apex_base.specs.Spelling.{state_of_number, state_at, kind_text, kind_of_numbers, kind_at, rollback_number, rollback_of_number, rollback_at, name_at, case_number, case_of_number, cause_text, superseded_at, case_at, cause_at, target_text, module_at, target_at, version_number, version_of_number, part_text, part_at, IsKind, IsCause, IsTarget, IsPart}
 use Rattle.session_record.proofs.Steps.{bind_holds, AreBytes, AreBytes-rest, Took}
 use Rattle.session_record.proofs.Took.{if_holds, taken_holds, chosen_holds, took_as, took_then, byte_took, four_took, eight_took, name_took, version_took, some_version_took}

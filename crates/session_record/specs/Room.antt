@@ -1,7 +1,6 @@
 -- What a record's spelling has room for: docs/rows.md, "A record".
 use Rattle.std.specs.Prelude.{◌≡◌, ◌⊎◌, ◌<◌, [], length}
 use Rattle.std.specs.List.{AllByRecursion}
-use Rattle.apex_base.specs.declared.records.Part.{Part}
 use Rattle.apex_base.specs.declared.records.Record.{Record}
 use Rattle.apex_base.specs.declared.records.Target.{Target}
 use Rattle.apex_base.specs.declared.records.Target.TheVariants.{Preinstalled, Module}

@@ -1,5 +1,5 @@
 -- The parts of a record with the children of its session: docs/rows.md, "A record".
-use Rattle.std.specs.Prelude.{ℕ, zero, suc, ◌==◌, ◌||◌, Bool, List, [], ◌∷◌, ◌++◌, Option, Some, None, if◌then◌else◌}
+use Rattle.std.specs.Prelude.{ℕ, zero, suc, ◌==◌, ◌||◌, Bool, List, [], ◌∷◌, Option, Some, None, if◌then◌else◌}
 use Rattle.std.specs.Int.{w32}
 use Rattle.apex_base.specs.Reading.{◌>>=◌, number_at}
 use Rattle.apex_base.specs.Spelling.{part_at}

@@ -1,4 +1,3 @@
-use Rattle.std.proofs.Common.{◌≡◌, []}
 use Rattle.apex_base.specs.Spelling.{record_text}
 use Rattle.session_record.proofs.Pushes.{pushed_then, pushed_all}
 use Rattle.session_record.proofs.encode.encode_record.Goals as goal

@@ -1,4 +1,4 @@
-use Rattle.std.proofs.Common.{◌≡◌, ◌+◌, ◌*◌, ◌≤◌, [], length, take}
+use Rattle.std.proofs.Common.{◌≡◌, ◌*◌, ◌≤◌, [], length, take}
 use Rattle.apex_base.specs.Spelling.{parts_text}
 use Rattle.session_record.proofs.length.parts_len.Given as goal
 

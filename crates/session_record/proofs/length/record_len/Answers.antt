@@ -1,4 +1,3 @@
-use Rattle.std.proofs.Common.{◌≡◌}
 use Rattle.session_record.proofs.Lengths.{record_length}
 use Rattle.session_record.proofs.length.record_len.Goals as goal
 

@@ -1,4 +1,4 @@
-use Rattle.std.proofs.Common.{◌≡◌, [], ◌∷◌, ◌++◌, sym, ap, ◌∙◌}
+use Rattle.std.proofs.Common.{◌≡◌, [], ◌∷◌, ◌++◌, sym}
 use Rattle.session_record.specs.Units.{with_child}
 use Rattle.session_record.proofs.Loop.{next_unit, no_unit, none_left}
 use Rattle.session_record.proofs.units.units_at.Goals as goal
