@@ -28,12 +28,8 @@ IsCall (calls.Drop name key) = Unit {0}
 IsCall (calls.Get name key) = Unit {0}
 IsCall (calls.StateOf id) = Unit {0}
 IsCall (calls.Watch time observer duration names) =
-<<<<<<< HEAD
     IsMillis time × IsTrue (is_name observer) × IsMillis duration
     × ((name : List ℕ) → In name names → IsTrue (is_name name))
-=======
-    IsMillis time × IsTrue (is_name observer) × IsMillis duration × ((name : List ℕ) → In name names → IsTrue (is_name name))
->>>>>>> f8b18cf687935771de0ceff666c2d3eafca6095b
 IsCall (calls.Report time name why) = IsMillis time × IsTrue (is_name name)
 
 -- an order that a world can be booted with
@@ -45,13 +41,9 @@ pub record IsOrderOf (w : World) (order : BootOrder) : Type 0 where
   pub number : boots w + 1 < 2 ^ 32
 
 abbrev pub BootsLeadToRunning : Type 0
-<<<<<<< HEAD
 BootsLeadToRunning =
     (w : World) → Lawful w → (order : BootOrder) → IsOrderOf w order → (mounts : Mounts)
     → Running (boot_world w order mounts)
-=======
-BootsLeadToRunning = (w : World) → Lawful w → (order : BootOrder) → IsOrderOf w order → (mounts : Mounts) → Running (boot_world w order mounts)
->>>>>>> f8b18cf687935771de0ceff666c2d3eafca6095b
 
 abbrev pub CallsKeepRunning : Type 0
 CallsKeepRunning = (w : World) → Running w → (call : Call) → IsCall call → Running (step w call).world
