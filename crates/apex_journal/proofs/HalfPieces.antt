@@ -1,11 +1,13 @@
 -- How the records of a half are read, piece by piece.
 use Rattle.std.proofs.Common.{◌≡◌, ◌≢◌, ◌⊎◌, inl, inr, ⊎_elim, ℕ, ◌+◌, ◌-◌, ◌<◌, ◌≤◌, List, [], ◌∷◌, ◌++◌, length, take, drop, get_or, refl, sym, ◌∙◌, ap, arith, append_assoc, length-append, length-drop, length-take, take-append-drop}
-use Rattle.std.proofs.lemmas.List.{drop_more, drop-drop, drop-take, take-take, get_or-take, get_or-drop, append-nil}
+use Rattle.std.proofs.lemmas.List.{drop_more, drop-drop, drop-take, take-take, length-take-le, get_or-take, get_or-drop, append-nil}
 use Rattle.std.proofs.lemmas.Grind.{flat_map-append}
 use Rattle.std.proofs.Math.Seq.{take-append_seam}
 use Rattle.std.specs.Int.{to_be_bytes, from_be_bytes, w32}
 use Rattle.apex_journal.specs.Records.{block, blocks, HalfHolds, IsDamagedAt}
 use Rattle.apex_journal.specs.Pieces.{BeginsWith, Adds, IsNeed}
+use Rattle.apex_base.specs.declared.numbers.Scale.{Scale}
+use Rattle.apex_journal.specs.Journal.{half_len, half_of}
 use Rattle.apex_journal.proofs.Halves.{block_at}
 
 -- a front goes on with the front of what follows it
@@ -129,3 +131,24 @@ module _ (half piece : List ℕ) (before after : List (List ℕ)) (at n : ℕ)
                 )))
             needs;
       }
+
+-- a file that is long enough has a whole half
+pub half_long : (scale : Scale) (file : List ℕ) → 4096 + half_len scale ≤ length file
+    → length (half_of scale file) ≡ half_len scale
+half_long scale file long =
+    length-take-le (half_len scale) (drop 4096 file) (omega (arith, long, length-drop 4096 file))
+
+-- what was read of a file at an offset of its half is a piece of that half
+pub piece_of_half : (scale : Scale) (file piece into room : List ℕ) (at : ℕ) → piece ≡ into
+    → length piece ≡ length room → into ≡ take (length room) (drop (4096 + at) file)
+    → at + length room ≤ half_len scale → piece ≡ take (length piece) (drop at (half_of scale file))
+piece_of_half scale file piece into room at same long is inside =
+    let size = half_len scale in
+    let left = size - at in
+    let split : size ≡ at + left = omega (arith, inside) in
+    let here : drop at (half_of scale file) ≡ take left (drop (4096 + at) file) =
+    ap (λ (k : ℕ). drop at (take k (drop 4096 file))) split ∙ drop-take at left (drop 4096 file)
+    ∙ ap (λ (l : List ℕ). take left l) (drop-drop at 4096 file) in
+    same ∙ is ∙ sym (take-take (length room) left (drop (4096 + at) file) (omega (arith, inside)))
+    ∙ ap (λ (l : List ℕ). take (length room) l) (sym here)
+    ∙ ap (λ (k : ℕ). take k (drop at (half_of scale file))) (sym long)

@@ -1,5 +1,5 @@
 //! A half is read in pieces, so that beside its records no more of it is in memory than a piece.
-ghost use Rattle.std.specs.Prelude.{◌≡◌, ◌≤◌, ◌<◌, ◌+◌, ◌*◌, ◌^◌, ℕ, List, length, take, drop, false, MatchResult, IfOk, IfErr, IfSome, OnOk};
+ghost use Rattle.std.specs.Prelude.{◌≡◌, ◌≤◌, ◌<◌, ◌+◌, ◌*◌, ◌^◌, ℕ, List, [], length, take, drop, false, MatchResult, IfOk, IfErr, IfSome, OnOk};
 ghost use Rattle.apex_disk.specs.Disk.{SameImages, CountsFaults, StaysGone};
 ghost use Rattle.apex_disk.specs.Moments.{LeavesOnly};
 ghost use Rattle.apex_journal.specs.Records.{blocks};
