@@ -119,16 +119,16 @@ module _ (half piece : List ℕ) (before after : List (List ℕ)) (at n : ℕ)
         runs_over = ⊎_elim
             (λ less. inr (omega (arith, less.1, runs_over, length-drop (at + n + 1) half)))
             (λ more.
-                let four : take 4 (drop (n + 1) piece) ≡ take 4 rest =
-                ap (λ (l : List ℕ). take 4 l) front_of_rest
-                ∙ take-take 4 (length piece - (n + 1)) rest (omega (arith, more.0, length-drop (n + 1) piece)) in
-                inr (omega (
-                  arith,
-                  more.1,
-                  ap (λ (l : List ℕ). from_be_bytes w32 l) four,
-                  runs_over,
-                  length-drop (at + n + 1) half,
-                )))
+            let four : take 4 (drop (n + 1) piece) ≡ take 4 rest =
+            ap (λ (l : List ℕ). take 4 l) front_of_rest
+            ∙ take-take 4 (length piece - (n + 1)) rest (omega (arith, more.0, length-drop (n + 1) piece)) in
+            inr (omega (
+              arith,
+              more.1,
+              ap (λ (l : List ℕ). from_be_bytes w32 l) four,
+              runs_over,
+              length-drop (at + n + 1) half,
+            )))
             needs;
       }
 

@@ -12,7 +12,7 @@ ghost use Rattle.apex_journal.specs.Refusals.{WhyClosed, CountsFault};
 use crate::half::HalfRead;
 use crate::head::{HEAD, judge};
 use crate::journal::Journal;
-use crate::pieces::{Reading, read_on, start};
+use crate::pieces::{Reading, nothing_read, read_on};
 use crate::scale::half_len;
 use crate::why::JournalWhy;
 use apex_base::{Bytes, Failed, Scale};
@@ -131,7 +131,7 @@ fn read_in_use<D: Disk>(alloc: Global, disk: &mut D, scale: Scale) -> Result<Hal
     ensures log { D.log disk.new ≡ D.log disk.old }
     ensures len { D.length_of disk.new ≡ D.length_of disk.old }
 {
-    let Ok(mut reading) = start(alloc, half_len(scale)) else {
+    let Ok(mut reading) = nothing_read(alloc, half_len(scale)) else {
         return Err(JournalWhy::NoMemory);
     };
     'pieces: loop {
@@ -139,8 +139,15 @@ fn read_in_use<D: Disk>(alloc: Global, disk: &mut D, scale: Scale) -> Result<Hal
             Err(why) => return Err(why),
             Ok(false) => {}
             Ok(true) => {
-                let Reading { records, at, piece: _ } = reading;
-                return Ok(HalfRead { records, used: at + 1 });
+                let Reading {
+                    records,
+                    at,
+                    piece: _,
+                } = reading;
+                return Ok(HalfRead {
+                    records,
+                    used: at + 1,
+                });
             }
         }
     }

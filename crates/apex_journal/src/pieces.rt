@@ -34,7 +34,7 @@ pub enum HalfWhy {
 }
 
 /// Nothing was read yet of a half of that length.
-pub(crate) fn start(alloc: Global, size: u64) -> Result<Reading, AllocError>
+pub(crate) fn nothing_read(alloc: Global, size: u64) -> Result<Reading, AllocError>
     requires { 1 ≤ size }
     ensures none { IfOk result (λ reading. reading.records.items ≡ []) }
     ensures at { IfOk result (λ reading. reading.at ≡ 0) }
