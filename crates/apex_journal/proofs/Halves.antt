@@ -1,9 +1,8 @@
 -- How a record stands in a half.
-use Rattle.std.proofs.Common.{◌≡◌, ℕ, ◌+◌, ◌<◌, List, [], ◌∷◌, ◌++◌, length, take, drop, get_or, refl, sym, ◌∙◌, ap, arith, append_assoc, length-append, length-drop, take-append-drop}
-use Rattle.std.proofs.lemmas.List.{drop_more, drop-drop, length-take-le, append-nil}
-use Rattle.std.proofs.lemmas.Grind.{flat_map-append}
+use Rattle.std.proofs.Common.{◌≡◌, ℕ, ◌+◌, ◌<◌, List, ◌∷◌, ◌++◌, length, take, drop, get_or, sym, ◌∙◌, ap, arith, append_assoc, length-append, length-drop, take-append-drop}
+use Rattle.std.proofs.lemmas.List.{drop_more, drop-drop, length-take-le}
 use Rattle.std.specs.Int.{to_be_bytes, w32}
-use Rattle.apex_journal.specs.Records.{framed, block, blocks}
+use Rattle.apex_journal.specs.Records.{framed, block}
 
 -- a block's parts, where it begins
 pub block_at : (half piece : List ℕ) (at n : ℕ) → at < length half → get_or half at 0 ≡ 1

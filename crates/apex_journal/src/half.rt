@@ -18,8 +18,8 @@ pub struct HalfRead {
 pub enum PieceEnd {
     Closed { at: usize },
 
-    /// The gate is open, and from it on the record and the gate after it need so many bytes, which are more than are left
-    /// of the piece.
+    /// The gate is open, and from it on the record and the gate after it need so many bytes, which are more than are
+    /// left of the piece.
     Cut { at: usize, need: usize },
 }
 
@@ -46,8 +46,8 @@ pub(crate) fn read_piece(
     Ok(PieceEnd::Closed { at })
 }
 
-/// How many bytes a record needs with the gates around it, by its length, which follows its gate; where that isn't whole
-/// either, how many the least record needs.
+/// How many bytes a record needs with the gates around it, by its length, which follows its gate; where that isn't
+/// whole either, how many the least record needs.
 fn need_of(rest: &[u8]) -> usize
     ensures need { IsNeed rest.now result }
     ensures len { 4 ≤ length rest.now → to_be_bytes w32 (result - 6) ≡ take 4 rest.now }

@@ -3,7 +3,7 @@ ghost use Rattle.std.specs.Prelude.{◌≡◌, ◌≤◌, ◌<◌, ◌+◌, ◌*
 ghost use Rattle.apex_disk.specs.Disk.{SameImages, CountsFaults, StaysGone};
 ghost use Rattle.apex_disk.specs.Moments.{LeavesOnly};
 ghost use Rattle.apex_journal.specs.Records.{blocks};
-ghost use Rattle.apex_journal.specs.Pieces.{BeginsWith, IsInHalf, IsOffsetIn, IsPieceTaken, IsReadTo, left_of};
+ghost use Rattle.apex_journal.specs.Pieces.{IsInHalf, IsNext, IsOffsetIn, IsPieceTaken, IsReadTo, left_of};
 ghost use Rattle.apex_journal.specs.Journal.{half_len, half_of, Told};
 ghost use Rattle.apex_journal.specs.Heads.{IsHalfWhy};
 ghost use Rattle.apex_journal.specs.Refusals.{CountsFault};
@@ -38,7 +38,7 @@ pub(crate) fn nothing_read(alloc: Global, size: u64) -> Result<Reading, AllocErr
     requires { 1 ≤ size }
     ensures none { IfOk result (λ reading. reading.records.items ≡ []) }
     ensures at { IfOk result (λ reading. reading.at ≡ 0) }
-    ensures piece { IfOk result (λ reading. IsInHalf size reading.records.items reading.at (length reading.piece.items)) }
+    ensures piece { IfOk result (λ reading. IsInHalf size reading) }
 {
     let piece = zeros(alloc, size.min(PIECE) as usize)?;
     Ok(Reading {
@@ -56,13 +56,13 @@ pub(crate) fn read_on<D: Disk>(
     reading: &mut Reading,
 ) -> Result<bool, JournalWhy>
     requires long { 4096 + 2 * half_len scale ≤ D.length_of disk.old }
-    requires inside { IsInHalf (half_len scale) reading.old.records.items reading.old.at (length reading.old.piece.items) }
-    requires begins { Told (D.reads disk.old) (λ file. BeginsWith (half_of scale file) reading.old.records.items reading.old.at) }
-    ensures read { IfOk result (λ closed. Told (D.reads disk.old) (λ file. IsReadTo closed (half_of scale file) reading.new.records.items reading.new.at)) }
+    requires inside { IsInHalf (half_len scale) reading.old }
+    requires begins { Told (D.reads disk.old) (λ file. IsReadTo false (half_of scale file) reading.old) }
+    ensures read { IfOk result (λ closed. Told (D.reads disk.old) (λ file. IsReadTo closed (half_of scale file) reading.new)) }
     ensures counts { OnOk result (reading.new.at ≡ length (blocks reading.new.records.items)) }
     ensures within { OnOk result (reading.new.at + 1 ≤ half_len scale) }
-    ensures inside { IfOk result (λ closed. closed ≡ false → IsInHalf (half_len scale) reading.new.records.items reading.new.at (length reading.new.piece.items)) }
-    ensures less { IfOk result (λ closed. closed ≡ false → left_of (half_len scale) reading.new.at (length reading.new.piece.items) < left_of (half_len scale) reading.old.at (length reading.old.piece.items)) }
+    ensures inside { IfOk result (λ closed. closed ≡ false → IsInHalf (half_len scale) reading.new) }
+    ensures less { IfOk result (λ closed. closed ≡ false → left_of (half_len scale) reading.new < left_of (half_len scale) reading.old) }
     ensures refused { IfErr result (λ why. IsHalfWhy scale (D.reads disk.old) why) }
     ensures cause { MatchResult result (λ _. D.faults disk.old ≡ D.faults disk.new) (λ why. CountsFault (D.faults disk.old) (D.faults disk.new) why) }
     ensures gone { StaysGone (D.gone disk.old) (D.gone disk.new) result }
@@ -101,13 +101,13 @@ fn read_at<D: Disk>(disk: &mut D, at: u64, into: &mut [u8]) -> Result<(), Failed
 /// Takes the records of a piece of a half of that length, and makes room for the next piece.
 fn take_piece(alloc: Global, size: u64, reading: &mut Reading) -> Result<bool, HalfWhy>
     requires small { size < 2 ^ 32 }
-    requires inside { IsInHalf size reading.old.records.items reading.old.at (length reading.old.piece.items) }
-    ensures taken { (half : List ℕ) → length half ≡ size → reading.old.piece.items ≡ take (length reading.old.piece.items) (drop reading.old.at half) → BeginsWith half reading.old.records.items reading.old.at → IsPieceTaken half reading.new.records.items reading.new.at result }
+    requires inside { IsInHalf size reading.old }
+    ensures taken { (half : List ℕ) → length half ≡ size → IsNext half reading.old → IsReadTo false half reading.old → IsPieceTaken half reading.new result }
     ensures offset { IfErr result (λ why. IsOffsetIn size why) }
     ensures counts { OnOk result (reading.new.at ≡ length (blocks reading.new.records.items)) }
     ensures within { OnOk result (reading.new.at + 1 ≤ size) }
-    ensures inside { IfOk result (λ closed. closed ≡ false → IsInHalf size reading.new.records.items reading.new.at (length reading.new.piece.items)) }
-    ensures less { IfOk result (λ closed. closed ≡ false → left_of size reading.new.at (length reading.new.piece.items) < left_of size reading.old.at (length reading.old.piece.items)) }
+    ensures inside { IfOk result (λ closed. closed ≡ false → IsInHalf size reading.new) }
+    ensures less { IfOk result (λ closed. closed ≡ false → left_of size reading.new < left_of size reading.old) }
 {
     let Ok(end) = read_piece(alloc, &reading.piece, &mut reading.records) else {
         return Err(HalfWhy::OutOfMemory);

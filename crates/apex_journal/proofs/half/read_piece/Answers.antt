@@ -1,4 +1,4 @@
-use Rattle.std.proofs.Common.{arith, ◌+◌, ◌-◌, length, take, drop, ◌∙◌, ap}
+use Rattle.std.proofs.Common.{arith, ◌+◌, ◌-◌, length, take, drop}
 use Rattle.std.proofs.lemmas.List.{take_rest}
 use Rattle.apex_journal.proofs.HalfPieces.{long_enough, piece_step}
 use Rattle.apex_journal.proofs.half.read_piece.Goals as goal

@@ -1,16 +1,15 @@
-use Rattle.std.proofs.Common.{◌≡◌, length}
+use Rattle.std.proofs.Common.{◌≡◌, false}
 use Rattle.apex_disk.specs.Disk.{SameImages}
 use Rattle.apex_disk.specs.Moments.{LeavesOnly}
 use Rattle.apex_journal.specs.Journal.{half_len, half_of, Told}
-use Rattle.apex_journal.specs.Pieces.{BeginsWith, IsInHalf, left_of}
+use Rattle.apex_journal.specs.Pieces.{IsInHalf, IsReadTo, left_of}
 use Rattle.apex_journal.proofs.opening.read_in_use.Given as goal
 
 -- the half begins with what was read, and the device is as it was
 abbrev pub invariant-pieces : goal.invariant-pieces
 invariant-pieces g l = record {
-  begins : Told (g.D.Disk.reads l.fn.disk) (λ file. BeginsWith (half_of l.scale file) l.reading.records.items
-      l.reading.at);
-  inside : IsInHalf (half_len l.scale) l.reading.records.items l.reading.at (length l.reading.piece.items);
+  begins : Told (g.D.Disk.reads l.fn.disk) (λ file. IsReadTo false (half_of l.scale file) l.reading);
+  inside : IsInHalf (half_len l.scale) l.reading;
   faults : g.D.Disk.faults l.fn.disk ≡ g.D.Disk.faults l.disk;
   gone : g.D.Disk.gone l.fn.disk → g.D.Disk.gone l.disk;
   reads : g.D.Disk.reads l.disk ≡ g.D.Disk.reads l.fn.disk;
@@ -21,4 +20,4 @@ invariant-pieces g l = record {
 }
 
 abbrev pub decreases-pieces : goal.decreases-pieces
-decreases-pieces g l = left_of (half_len l.scale) l.reading.at (length l.reading.piece.items)
+decreases-pieces g l = left_of (half_len l.scale) l.reading

@@ -1,4 +1,4 @@
-use Rattle.std.proofs.Common.{◌≡◌, Err, ℕ, ◌+◌, List, length, take, drop, arith, ap, sym, ◌∙◌, subst}
+use Rattle.std.proofs.Common.{◌≡◌, Err, ℕ, ◌+◌, length, take, drop, arith, ap, sym, ◌∙◌, subst}
 use Rattle.std.proofs.lemmas.List.{with_items_is}
 use Rattle.std.specs.Vec.{with_items}
 use Rattle.apex_journal.specs.Journal.{half_of}
@@ -36,7 +36,7 @@ returns-in-Err-RunsOver-clause-refused g c = λ file told.
     (λ f. into ≡ take (length room) (drop (4096 + r.at) f)) file told c.in-Ok.ensures.bytes in
     let after = c.take_piece.new.reading in
     let damaged : IsDamagedAt (half_of c.args.scale file) c.in-Err-RunsOver.at =
-    subst (λ (why : HalfWhy). IsPieceTaken (half_of c.args.scale file) after.records.items after.at (Err why))
+    subst (λ (why : HalfWhy). IsPieceTaken (half_of c.args.scale file) after (Err why))
     c.in-Err-RunsOver.field-0-is (c.in-Err-RunsOver.ensures.taken (half_of c.args.scale file)
     (half_long c.args.scale file (omega (arith, long, c.requires.long)) ∙ sym c.half_len.ensures.len)
     (piece_of_half c.args.scale file piece into room r.at same (omega (arith, ap length same)) is
