@@ -1,9 +1,8 @@
--- How the records of a half are read.
-use Rattle.std.proofs.Common.{◌≡◌, ℕ, ◌+◌, ◌<◌, List, [], ◌∷◌, ◌++◌, length, take, drop, get_or, refl, sym, ◌∙◌, ap, arith, append_assoc, length-append, length-drop, take-append-drop}
-use Rattle.std.proofs.lemmas.List.{drop_more, drop-drop, length-take-le, append-nil}
-use Rattle.std.proofs.lemmas.Grind.{flat_map-append}
+-- How a record stands in a half.
+use Rattle.std.proofs.Common.{◌≡◌, ℕ, ◌+◌, ◌<◌, List, ◌∷◌, ◌++◌, length, take, drop, get_or, sym, ◌∙◌, ap, arith, append_assoc, length-append, length-drop, take-append-drop}
+use Rattle.std.proofs.lemmas.List.{drop_more, drop-drop, length-take-le}
 use Rattle.std.specs.Int.{to_be_bytes, w32}
-use Rattle.apex_journal.specs.Records.{framed, block, blocks}
+use Rattle.apex_journal.specs.Records.{framed, block}
 
 -- a block's parts, where it begins
 pub block_at : (half piece : List ℕ) (at n : ℕ) → at < length half → get_or half at 0 ≡ 1
@@ -23,40 +22,4 @@ block_at half piece at n lt is_open number is fits =
     ∙ sym (append_assoc (to_be_bytes w32 (length piece)) piece (drop (at + (5 + n)) half)) in (
       drop_more half at 0 lt ∙ ap (λ (k : ℕ). k ∷ rest) is_open ∙ ap (λ (l : List ℕ). 1 ∷ l) tail,
       omega (arith, length-append (to_be_bytes w32 (length piece)) piece, size),
-    )
-
-pub read_step : (half piece : List ℕ) (records : List (List ℕ)) (at n : ℕ) → half ≡ blocks records ++ drop at half
-    → at ≡ length (blocks records) → at < length half → get_or half at 0 ≡ 1
-    → to_be_bytes w32 n ≡ take 4 (drop (at + 1) half) → piece ≡ take n (drop 4 (drop (at + 1) half))
-    → 4 + n < length (drop (at + 1) half)
-    → (half ≡ blocks (records ++ piece ∷ []) ++ drop (at + (5 + n)) half)
-    × (at + (5 + n) ≡ length (blocks (records ++ piece ∷ []))) × (at + (5 + n) < length half)
-read_step half piece records at n so_far here lt is_open number is fits =
-    let b = block_at half piece at n lt is_open number is fits in
-    let more : blocks (records ++ piece ∷ []) ≡ blocks records ++ block piece =
-    flat_map-append block records (piece ∷ [])
-    ∙ ap (λ (l : List ℕ). blocks records ++ l) (append-nil (block piece)) in (
-      so_far ∙ ap (λ (l : List ℕ). blocks records ++ l) b.0
-          ∙ sym (append_assoc (blocks records) (block piece) (drop (at + (5 + n)) half))
-          ∙ ap (λ (l : List ℕ). l ++ drop (at + (5 + n)) half) (sym more),
-      omega (arith, ap length more, length-append (blocks records) (block piece), b.1, here),
-      omega (arith, length-drop (at + 1) half, fits),
-    )
-
--- the same, at the parts as the code cuts them
-pub read_on : (half rest : List ℕ) (records more : List (List ℕ)) (at n m : ℕ) → rest ≡ drop (at + 1) half → m ≡ n
-    → half ≡ blocks records ++ drop at half → at ≡ length (blocks records) → at < length half → get_or half at 0 ≡ 1
-    → to_be_bytes w32 n ≡ take 4 rest → 4 + n < length rest → more ≡ records ++ take m (drop 4 rest) ∷ []
-    → (half ≡ blocks more ++ drop (at + (5 + n)) half) × (at + (5 + n) ≡ length (blocks more))
-    × (at + (5 + n) < length half)
-read_on half rest records more at n m rest_is m_is so_far here lt is_open number fits is =
-    let piece = take n (drop 4 (drop (at + 1) half)) in
-    let same : more ≡ records ++ piece ∷ [] = is ∙ ap (λ (l : List ℕ). records ++ take m (drop 4 l) ∷ []) rest_is
-    ∙ ap (λ (k : ℕ). records ++ take k (drop 4 (drop (at + 1) half)) ∷ []) m_is in
-    let s = read_step half piece records at n so_far here lt is_open (number ∙ ap (λ (l : List ℕ). take 4 l) rest_is)
-    refl (omega (arith, ap length rest_is)) in (
-      s.0 ∙ ap (λ (l : List (List ℕ)). blocks l ++ drop (at + (5 + n)) half) (sym same),
-      s.1
-          ∙ ap (λ (l : List (List ℕ)). length (blocks l)) (sym same),
-      s.2,
     )

@@ -1,6 +1,7 @@
 mod Appends
 mod Fresh
 mod Gates
+mod HalfPieces
 mod Halves
 mod Heads
 mod Once

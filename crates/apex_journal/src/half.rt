@@ -1,7 +1,7 @@
-//! The records of a half that was read.
-ghost use Rattle.std.specs.Prelude.{◌≡◌, ◌⊎◌, ◌+◌, ◌≤◌, ◌<◌, length, take, ◌++◌, ◌∷◌, [], OnOk, MatchOption};
-ghost use Rattle.std.specs.Int.{to_be_bytes, from_be_bytes, w32};
-ghost use Rattle.apex_journal.specs.Halves.{IsRead};
+//! The records of a piece of a half.
+ghost use Rattle.std.specs.Prelude.{◌≡◌, ◌≤◌, ◌-◌, length, take, ◌++◌, ◌∷◌, [], OnOk, IfOk};
+ghost use Rattle.std.specs.Int.{to_be_bytes, w32};
+ghost use Rattle.apex_journal.specs.Pieces.{IsPieceRead, IsNeed};
 
 use apex_base::Bytes;
 use std::alloc::{AllocError, Global};
@@ -13,52 +13,52 @@ pub struct HalfRead {
     pub used: u64,
 }
 
-/// Why a half can't be read: an open gate at an offset in it without a whole record, or memory.
+/// How the records of a piece end: at a gate at that offset.
 #[derive(Clone, Copy, Debug, PartialEq, Eq)]
-pub enum HalfWhy {
-    RunsOver { at: u64 },
-    OutOfMemory,
+pub enum PieceEnd {
+    Closed { at: usize },
+
+    /// The gate is open, and from it on the record and the gate after it need so many bytes, which are more than are
+    /// left of the piece.
+    Cut { at: usize, need: usize },
 }
 
-/// Reads the records of a half.
-pub(crate) fn read_half(alloc: Global, half: &[u8]) -> Result<HalfRead, HalfWhy>
-    requires { 1 ≤ length half.now }
-    ensures { IsRead half.now result }
+/// Adds the records of a piece that begins with a gate.
+pub(crate) fn read_piece(
+    alloc: Global,
+    piece: &[u8],
+    records: &mut Vec<Bytes>,
+) -> Result<PieceEnd, AllocError>
+    requires { 1 ≤ length piece.now }
+    ensures { IfOk result (IsPieceRead piece.now records.old.items records.new.items) }
 {
-    let mut records = Vec::new(alloc);
     let mut at = 0;
-    while half[at] == 1 {
-        let rest = &half[at + 1..];
-        let Some(len) = next_len(rest) else {
-            return Err(HalfWhy::RunsOver { at: at as u64 });
-        };
-        let len = len as usize;
-        match push_copy(alloc, &mut records, &rest[4..4 + len]) {
-            Err(_) => return Err(HalfWhy::OutOfMemory),
-            Ok(()) => {}
+    while piece[at] == 1 {
+        let rest = &piece[at + 1..];
+        let need = need_of(rest);
+        if rest.len() + 1 < need {
+            return Ok(PieceEnd::Cut { at, need });
         }
+        let len = need - 6;
+        push_copy(alloc, records, &rest[4..4 + len])?;
         at += 5 + len;
     }
-    Ok(HalfRead {
-        records,
-        used: at as u64 + 1,
-    })
+    Ok(PieceEnd::Closed { at })
 }
 
-/// The length of the record after an open gate, if a closed gate may follow it.
-fn next_len(rest: &[u8]) -> Option<u32>
-    ensures { MatchOption result
-        ((length rest.now < 4) ⊎ (length rest.now ≤ 4 + from_be_bytes w32 (take 4 rest.now)))
-        (λ n. (to_be_bytes w32 n ≡ take 4 rest.now) × (4 + n < length rest.now)) }
+/// How many bytes a record needs with the gates around it, by its length, which follows its gate; where that isn't
+/// whole either, how many the least record needs.
+fn need_of(rest: &[u8]) -> usize
+    ensures need { IsNeed rest.now result }
+    ensures len { 4 ≤ length rest.now → to_be_bytes w32 (result - 6) ≡ take 4 rest.now }
+    ensures small { result ≤ 4294967301 }
+    ensures some { 6 ≤ result }
 {
     if rest.len() < 4 {
-        return None;
+        return 6;
     }
     let n = u32::from_be_bytes([rest[0], rest[1], rest[2], rest[3]]);
-    if rest.len() <= 4 + n as usize {
-        return None;
-    }
-    Some(n)
+    6 + n as usize
 }
 
 fn push_copy(alloc: Global, records: &mut Vec<Bytes>, piece: &[u8]) -> Result<(), AllocError>

@@ -9,6 +9,7 @@ mod head;
 mod journal;
 mod laws;
 mod opening;
+mod pieces;
 mod scale;
 #[cfg(test)]
 mod tests;

@@ -9,14 +9,15 @@ ghost use Rattle.apex_journal.specs.Journal.{half_len, half_of, IsBlank, Opens, 
 ghost use Rattle.apex_journal.specs.Heads.{IsHalfWhy};
 ghost use Rattle.apex_journal.specs.Refusals.{WhyClosed, CountsFault};
 
-use crate::half::{HalfRead, HalfWhy, read_half};
+use crate::half::HalfRead;
 use crate::head::{HEAD, judge};
 use crate::journal::Journal;
-use crate::scale::{START, half_len};
+use crate::pieces::{Reading, nothing_read, read_on};
+use crate::scale::half_len;
 use crate::why::JournalWhy;
 use apex_base::{Bytes, Failed, Scale};
 use apex_disk::Disk;
-use std::alloc::{AllocError, Global};
+use std::alloc::Global;
 
 impl<D: Disk> Journal<D> {
     /// Opens the store of that scale on the device, with its records in order.
@@ -130,22 +131,24 @@ fn read_in_use<D: Disk>(alloc: Global, disk: &mut D, scale: Scale) -> Result<Hal
     ensures log { D.log disk.new ≡ D.log disk.old }
     ensures len { D.length_of disk.new ≡ D.length_of disk.old }
 {
-    let Ok(mut half) = zeros(alloc, half_len(scale) as usize) else {
+    let Ok(mut reading) = nothing_read(alloc, half_len(scale)) else {
         return Err(JournalWhy::NoMemory);
     };
-    match disk.read(START, &mut half) {
-        Err(_) => return Err(JournalWhy::DiskFault),
-        Ok(()) => {}
+    'pieces: loop {
+        match read_on(alloc, disk, scale, &mut reading) {
+            Err(why) => return Err(why),
+            Ok(false) => {}
+            Ok(true) => {
+                let Reading {
+                    records,
+                    at,
+                    piece: _,
+                } = reading;
+                return Ok(HalfRead {
+                    records,
+                    used: at + 1,
+                });
+            }
+        }
     }
-    match read_half(alloc, &half) {
-        Ok(read) => Ok(read),
-        Err(HalfWhy::RunsOver { at }) => Err(JournalWhy::Damaged { offset: START + at }),
-        Err(HalfWhy::OutOfMemory) => Err(JournalWhy::NoMemory),
-    }
-}
-
-fn zeros(alloc: Global, len: usize) -> Result<Vec<u8>, AllocError>
-    ensures { IfOk result (λ bytes. length bytes.items ≡ len) }
-{
-    Ok(vec![in alloc; 0u8; len]?)
 }

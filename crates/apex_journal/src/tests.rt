@@ -235,6 +235,31 @@ fn a_full_half_takes_no_record_more(rt: HostRuntime) -> Result<(), Fail> {
     Ok(())
 }
 
+fn fives(alloc: Global, len: usize) -> Result<Vec<u8>, AllocError> {
+    Ok(vec![in alloc; 5u8; len]?)
+}
+
+/// How many records are found: one of a byte, one of so many bytes, and one of none.
+fn found_around(alloc: Global, len: usize) -> Option<usize> {
+    let long = fives(alloc, len).ok()?;
+    let mut journal = made_in_memory(alloc)?;
+    journal.append(&[1]).ok()?;
+    journal.append(&long).ok()?;
+    journal.append(&[]).ok()?;
+    let records = opened(alloc, journal.into_disk(), Scale::Small).ok()?;
+    count_of(&records, [&[1], &long])
+}
+
+#[test]
+fn records_that_a_piece_cuts_are_read(rt: HostRuntime) -> Result<(), Fail> {
+    // Pieces have 65,536 bytes, and the long record stands after 6 bytes, with a gate and its length before it and a
+    // gate after it.
+    for len in [65524, 65525, 65530, 65531, 200000] {
+        assert_eq!(rt; found_around(rt.alloc(), len), Some(3), "{len} bytes");
+    }
+    Ok(())
+}
+
 const FOLDER: &str = "apex_journal_files";
 
 const PATH: &str = "apex_journal_files/disk";
