@@ -1,15 +1,15 @@
 -- The world before the first boot is lawful: `empty_lawful`.
-use Rattle.std.proofs.Common.{◌≡◌, ◌≢◌, ℕ, ◌≤◌, ◌<◌, ◌^◌, true, List, [], ◌∷◌, length, map, sum, Option, Some, None, IfSome, sym, ap, subst, ◌∙◌, refl, inl, inr, arith}
+use Rattle.std.proofs.Common.{◌≡◌, ◌≢◌, ℕ, List, [], ◌∷◌, length, map, sum, Option, Some, None, IfSome, sym, ap, subst, ◌∙◌, refl, arith}
 use Rattle.std.specs.FinMap as fin
 use Rattle.std.specs.FinMap.{get-empty, len-empty, len-entries}
 use Rattle.std.specs.Ordering.{nat_cmp}
 use Rattle.std.specs.Cmp.Lexicographic.{slice_cmp}
 use Rattle.apex_base.specs.declared.numbers.Scale.{Scale}
-use Rattle.apex_base.specs.Tables.{NameMap, Table, or_empty, part_of, value_of}
-use Rattle.apex_world.specs.Bounds.{table_len, HasLittleData, IsWithinScale}
+use Rattle.apex_base.specs.Tables.{NameMap, or_empty, part_of, value_of}
+use Rattle.apex_world.specs.Bounds.{table_len}
 use Rattle.apex_world.specs.Data.{part_weight, data_weight}
-use Rattle.apex_world.specs.Lawful.{IsTable, AreInRange, HaveIds, HaveActivations, HaveRollbacks, HaveRollbackSessions, HaveModules, Lawful}
-use Rattle.apex_world.specs.World.{World, empty_world}
+use Rattle.apex_world.specs.Lawful.{IsTable, Lawful}
+use Rattle.apex_world.specs.World.{empty_world}
 use Rattle.apex_base.specs.RowSums.{entry_weight}
 
 no_entries : {X : Type 0} → fin.entries (fin.empty {X = X} {R = slice_cmp nat_cmp}) ≡ []

@@ -1,18 +1,17 @@
 -- The rows that stand for a world: docs/rows.md. What a row says is a definition of its own.
-use Rattle.std.specs.Prelude.{ℕ, ◌==◌, ◌&&◌, Bool, true, false, not, List, [], ◌∷◌, ◌++◌, length, map, flat_map, Option, Some, None, find, option_and_then, if◌then◌else◌, ◌≡◌, refl}
-use Rattle.std.specs.List.{list_any}
+use Rattle.std.specs.Prelude.{ℕ, ◌==◌, ◌&&◌, Bool, true, false, not, List, [], ◌∷◌, ◌++◌, length, map, flat_map, Option, Some, None, option_and_then, if◌then◌else◌, ◌≡◌, refl}
 use Rattle.std.specs.Option.{option_map}
 use Rattle.std.specs.FinMap as fin
 use Rattle.apex_base.specs.declared.numbers.SessionId.{SessionId}
 use Rattle.apex_base.specs.declared.records.Kind.{Kind}
-use Rattle.apex_base.specs.declared.records.Kind.TheVariants.{Plain, WithRollback, RollbackOf}
+use Rattle.apex_base.specs.declared.records.Kind.TheVariants.{RollbackOf}
 use Rattle.apex_base.specs.declared.records.Record.{Record}
 use Rattle.apex_base.specs.declared.records.RollbackState.{RollbackState}
 use Rattle.apex_base.specs.declared.records.RollbackState.TheVariants.{Enabling, Available, Committed, Deleted}
 use Rattle.apex_base.specs.declared.records.State.{State}
 use Rattle.apex_base.specs.declared.records.State.TheVariants as state
 use Rattle.apex_base.specs.Commit.{rollback_id, rolls_back}
-use Rattle.apex_base.specs.Held.{is_undoable, is_standing, held, before, kept, is_target}
+use Rattle.apex_base.specs.Held.{is_undoable, kept, is_target}
 use Rattle.apex_base.specs.Keys.{Key, Boots, RecordOf, ActiveOf, BackupOf, FileOf, DataOf, SnapshotOf, PreRestoreOf, WatchOf, RowMap, rows_by}
 use Rattle.apex_base.specs.Reading.{four_text, eight_text}
 use Rattle.apex_base.specs.Sessions.{names, session_of}

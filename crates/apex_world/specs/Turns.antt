@@ -8,7 +8,7 @@ use Rattle.apex_world.specs.declared.script.Segment.{Segment}
 use Rattle.apex_world.specs.declared.script.ScriptBoot.{ScriptBoot}
 use Rattle.apex_world.specs.declared.script.Script.{Script}
 use Rattle.apex_world.specs.declared.turns.Fate.{Fate}
-use Rattle.apex_world.specs.declared.turns.Fate.TheVariants.{Answered, Kept, Lost, Open, Closed, NoMemory, Full}
+use Rattle.apex_world.specs.declared.turns.Fate.TheVariants.{Kept, Lost, Open, Closed, NoMemory}
 use Rattle.apex_world.specs.declared.turns.TurnRow.{TurnRow}
 use Rattle.apex_world.specs.declared.calls.Call.TheVariants as calls
 
