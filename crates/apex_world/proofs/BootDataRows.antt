@@ -1,5 +1,5 @@
 -- What the rows of data are after a boot, by the rows before it. Callers want `data_settled`.
-use Rattle.std.proofs.Common.{◌≡◌, ◌⊎◌, ℕ, Bool, true, false, cond, List, [], ◌∷◌, ◌++◌}
+use Rattle.std.proofs.Common.{◌≡◌, ℕ, Bool, true, false, cond, List, [], ◌∷◌, ◌++◌}
 use Rattle.std.proofs.Common.{Option, Some, None, sym, ap, subst, ◌∙◌, refl, inl, inr, is_some, arith}
 use Rattle.std.specs.Prelude.{option_and_then}
 use Rattle.std.specs.List.{list_any}
@@ -10,27 +10,24 @@ use Rattle.std.specs.FinMap as fin
 use Rattle.std.specs.FinMap.{get-empty}
 use Rattle.std.proofs.lemmas.Bool.{and_from, false≢true}
 use Rattle.apex_base.specs.declared.numbers.SessionId.{SessionId}
-use Rattle.apex_base.specs.declared.records.Kind.{Kind}
-use Rattle.apex_base.specs.declared.records.Kind.TheVariants.{Plain, WithRollback, RollbackOf}
+use Rattle.apex_base.specs.declared.records.Kind.TheVariants.{RollbackOf}
 use Rattle.apex_base.specs.declared.records.Part.{Part}
 use Rattle.apex_base.specs.declared.records.Record.{Record}
 use Rattle.apex_base.specs.declared.records.State.TheVariants as state
 use Rattle.apex_base.specs.Held.{is_undoable}
-use Rattle.apex_base.specs.Keys.{Key, DataOf, SnapshotOf, PreRestoreOf, key_text}
+use Rattle.apex_base.specs.Keys.{Key, SnapshotOf, PreRestoreOf, key_text}
 use Rattle.apex_base.specs.Members.{In}
 use Rattle.apex_base.specs.Sessions.{names, session_of}
 use Rattle.apex_base.specs.Tables.{NameMap, value_of}
-use Rattle.apex_base.proofs.Finding.{some_if}
 use Rattle.apex_base.proofs.SessionLemmas.{of_found, of_in}
 use Rattle.apex_world.specs.declared.calls.BootOrder.{BootOrder}
 use Rattle.apex_world.specs.Boot.{boot_world}
 use Rattle.apex_world.specs.Lawful.{Lawful, IsRollbackSession}
-use Rattle.apex_world.specs.Restore.{became}
 use Rattle.apex_world.specs.RollbackData.{WentTo, HasDataOf, IsRestoredBy, RestoresData}
 use Rattle.apex_world.specs.Rows.{has_snapshot, undoes, has_pre_restore}
 use Rattle.apex_world.specs.Rows.{earlier, rows}
 use Rattle.apex_world.specs.RowsAfter.{still}
-use Rattle.apex_world.specs.RowsBooted.{brought_by, brought_to, or_key, source_of, has_name}
+use Rattle.apex_world.specs.RowsBooted.{source_of, has_name}
 use Rattle.apex_world.specs.Running.{runs}
 use Rattle.apex_world.specs.Selection.{Mounts}
 use Rattle.apex_world.specs.World.{World, Contents, era}

@@ -1,49 +1,17 @@
 -- Where a boot brings the values of a name back from. Callers want `Brings`, `brings_to`, `some_brought` and `sourced`.
-use Rattle.std.proofs.Common.{◌≡◌, ◌⊎◌, ℕ, Bool, true, false, cond, List, [], ◌∷◌, ◌++◌}
-use Rattle.std.proofs.Common.{Option, Some, None, sym, ap, subst, ◌∙◌, refl, inl, inr, is_some, arith}
-use Rattle.std.specs.Prelude.{option_and_then}
-use Rattle.std.specs.List.{list_any}
-use Rattle.std.specs.Ordering.{nat_cmp}
-use Rattle.std.specs.Cmp.Lexicographic.{slice_cmp}
-use Rattle.std.specs.Str.{bytes_eq}
-use Rattle.std.specs.FinMap as fin
-use Rattle.std.specs.FinMap.{get-empty}
-use Rattle.std.proofs.lemmas.Bool.{and_from, false≢true}
+use Rattle.std.proofs.Common.{◌≡◌, ◌⊎◌, ℕ, Bool, true, false, cond, List, [], ◌∷◌}
+use Rattle.std.proofs.Common.{Option, Some, None, sym, ap, ◌∙◌, refl, inl, inr, is_some}
 use Rattle.apex_base.specs.declared.numbers.SessionId.{SessionId}
 use Rattle.apex_base.specs.declared.records.Kind.{Kind}
 use Rattle.apex_base.specs.declared.records.Kind.TheVariants.{Plain, WithRollback, RollbackOf}
-use Rattle.apex_base.specs.declared.records.Part.{Part}
 use Rattle.apex_base.specs.declared.records.Record.{Record}
 use Rattle.apex_base.specs.declared.records.State.TheVariants as state
-use Rattle.apex_base.specs.Held.{is_undoable}
-use Rattle.apex_base.specs.Keys.{Key, DataOf, SnapshotOf, PreRestoreOf, key_text}
+use Rattle.apex_base.specs.Keys.{Key, DataOf, SnapshotOf, PreRestoreOf}
 use Rattle.apex_base.specs.Members.{In}
 use Rattle.apex_base.specs.Sessions.{names, session_of}
-use Rattle.apex_base.specs.Tables.{NameMap, value_of}
 use Rattle.apex_base.proofs.Finding.{some_if}
-use Rattle.apex_base.proofs.SessionLemmas.{of_found, of_in}
-use Rattle.apex_world.specs.declared.calls.BootOrder.{BootOrder}
-use Rattle.apex_world.specs.Boot.{boot_world}
-use Rattle.apex_world.specs.Lawful.{Lawful, IsRollbackSession}
 use Rattle.apex_world.specs.Restore.{became}
-use Rattle.apex_world.specs.RollbackData.{WentTo, HasDataOf, IsRestoredBy, RestoresData}
-use Rattle.apex_world.specs.Rows.{has_snapshot, undoes, has_pre_restore}
-use Rattle.apex_world.specs.Rows.{earlier, rows}
-use Rattle.apex_world.specs.RowsAfter.{still}
-use Rattle.apex_world.specs.RowsBooted.{brought_by, brought_to, or_key, source_of, has_name}
-use Rattle.apex_world.specs.Running.{runs}
-use Rattle.apex_world.specs.Selection.{Mounts}
-use Rattle.apex_world.specs.World.{World, Contents, era}
-use Rattle.apex_world.proofs.BootDataAlike.{was_staged, keeps_snapshot}
-use Rattle.apex_world.proofs.BootFades.{era_front}
-use Rattle.apex_world.proofs.BootSessions.{boot_loops}
-use Rattle.apex_world.proofs.BootTurns.{reverted_undoable}
-use Rattle.apex_world.proofs.BootLaws.{number, turn, cause_for, way}
-use Rattle.apex_world.proofs.CommitPeers.{same_names}
-use Rattle.apex_world.proofs.RollbackDataLemmas.{number_activated, number_reverted, is_became, became_is, goes_back}
-use Rattle.apex_world.proofs.RollbackDataLemmas.{runs_is, rollback_data}
-use Rattle.apex_world.proofs.RollbackIds.{lawful_undone}
-use Rattle.apex_world.proofs.WorldRows.{record_id, data_at, snapshot_at, pre_restore_at}
+use Rattle.apex_world.specs.RowsBooted.{brought_by, brought_to, or_key, source_of}
 
 -- a session brings it back, by its activation or by its reversion
 pub record Brings (old new : Record) (name key : List ℕ) (k : Key) : Type 0 where

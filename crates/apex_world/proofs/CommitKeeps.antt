@@ -1,5 +1,5 @@
 -- Commits and triggers keep what sessions kept. Callers want `committed_keeps` and `triggered_keeps`.
-use Rattle.std.proofs.Common.{◌≡◌, ◌⊎◌, ℕ, Bool, true, false, eqb, ◌&&◌, List, [], ◌∷◌, filter, Option, Some, None}
+use Rattle.std.proofs.Common.{◌≡◌, ℕ, Bool, true, false, eqb, ◌&&◌, List, [], ◌∷◌, filter, Option, Some, None}
 use Rattle.std.proofs.Common.{sym, ap, ◌∙◌, refl, inl, inr, arith}
 use Rattle.std.specs.Prelude.{not}
 use Rattle.std.proofs.lemmas.Bool.{and_parts, and_from, false≢true}
@@ -7,10 +7,8 @@ use Rattle.apex_base.specs.declared.numbers.SessionId.{SessionId}
 use Rattle.apex_base.specs.declared.records.Record.{Record}
 use Rattle.apex_base.specs.declared.records.RollbackState.{RollbackState}
 use Rattle.apex_base.specs.declared.records.RollbackState.TheVariants.{Enabling, Available, Committed, Deleted}
-use Rattle.apex_base.specs.declared.records.Target.{Target}
-use Rattle.apex_base.specs.declared.records.Target.TheVariants as targets
 use Rattle.apex_base.specs.Commit.{rollback_id, rolls_back, rollback_session, committed}
-use Rattle.apex_base.specs.Held.{is_available, is_undoable, kept}
+use Rattle.apex_base.specs.Held.{is_available, is_undoable}
 use Rattle.apex_base.specs.Members.{In}
 use Rattle.apex_base.specs.Rollbacks.{is_committed, not_enabled, is_eligible}
 use Rattle.apex_base.specs.Sessions.{session_of}

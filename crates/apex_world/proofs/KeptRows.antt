@@ -1,38 +1,15 @@
 -- What sessions keep of modules and of data after a change, they kept before it, but for what boot n puts by. Callers
 -- want `KeepsRows`, `keeps_all` and `keeps_on`.
-use Rattle.std.proofs.Common.{◌≡◌, ◌⊎◌, ℕ, Bool, true, false, eqb, ◌&&◌, List, [], ◌∷◌, filter, Option, Some, None}
-use Rattle.std.proofs.Common.{sym, ap, ◌∙◌, refl, inl, inr, arith}
-use Rattle.std.specs.Prelude.{not}
-use Rattle.std.proofs.lemmas.Bool.{and_parts, and_from, false≢true}
+use Rattle.std.proofs.Common.{◌≡◌, ◌⊎◌, ℕ, Bool, true, List, Some}
+use Rattle.std.proofs.Common.{◌∙◌, refl, inl, inr}
 use Rattle.apex_base.specs.declared.numbers.SessionId.{SessionId}
 use Rattle.apex_base.specs.declared.records.Record.{Record}
-use Rattle.apex_base.specs.declared.records.RollbackState.{RollbackState}
-use Rattle.apex_base.specs.declared.records.RollbackState.TheVariants.{Enabling, Available, Committed, Deleted}
 use Rattle.apex_base.specs.declared.records.Target.{Target}
 use Rattle.apex_base.specs.declared.records.Target.TheVariants as targets
-use Rattle.apex_base.specs.Commit.{rollback_id, rolls_back, rollback_session, committed}
-use Rattle.apex_base.specs.Held.{is_available, is_undoable, kept}
+use Rattle.apex_base.specs.Held.{kept}
 use Rattle.apex_base.specs.Members.{In}
-use Rattle.apex_base.specs.Rollbacks.{is_committed, not_enabled, is_eligible}
 use Rattle.apex_base.specs.Sessions.{session_of}
-use Rattle.apex_base.proofs.SessionLemmas.{of_found, of_in}
-use Rattle.apex_world.specs.declared.calls.Observer.{Observer}
-use Rattle.apex_world.specs.declared.calls.ObserverKind.{ObserverKind}
-use Rattle.apex_world.specs.declared.calls.ObserverKind.TheVariants.{Fixed, Rollback}
-use Rattle.apex_world.specs.Lawful.{Lawful}
-use Rattle.apex_world.specs.Rows.{is_staged, is_staged_session, may_happen, has_snapshot, undoes, has_pre_restore}
-use Rattle.apex_world.specs.Running.{Running}
-use Rattle.apex_world.specs.Submit.{print_of}
-use Rattle.apex_world.specs.Trigger.{acted, acting_among, commits, commit_all, triggered}
-use Rattle.apex_world.specs.World.{World}
-use Rattle.apex_world.proofs.CommitKept.{kept_before}
-use Rattle.apex_world.proofs.CommitOne.{CommitsTo, Taken, GivesWay, Stays, leaves, members, was_so}
-use Rattle.apex_world.proofs.CommitRuns.{eligible_available, committed_running}
-use Rattle.apex_world.proofs.CommitWays.{available_may}
-use Rattle.apex_world.proofs.OpenedSessions.{one_session}
-use Rattle.apex_world.proofs.StagedSome.{staged_some}
-use Rattle.apex_world.proofs.TriggerRuns.{AreEligible, rest_eligible, filter_eligible}
-use Rattle.apex_world.proofs.WorldRows.{same_id}
+use Rattle.apex_world.specs.Rows.{has_snapshot, has_pre_restore}
 
 -- a session passed a test before, with the id, the parts and the activation boot that it has now
 pub record Was (ss : List Record) (test : Record → Bool) (id : SessionId) (s : Record) : Type 0 where
