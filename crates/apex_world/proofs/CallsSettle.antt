@@ -1,6 +1,6 @@
 -- After a call that changes sessions alone, the rows are those that the sessions settle. Callers want `call_settles`.
 use Rattle.std.proofs.Common.{◌≡◌, ℕ, ◌<◌, Bool, true, false, cond, ◌++◌, max, List, [], ◌∷◌, map, filter, is_some, Option}
-use Rattle.std.proofs.Common.{Some, None, find, Result, Ok, Err, sym, subst, refl, inl, inr, arith}
+use Rattle.std.proofs.Common.{Some, None, find, Result, Ok, Err, refl, inl, inr, arith}
 use Rattle.std.specs.List.{list_any}
 use Rattle.std.specs.FinMap as fin
 use Rattle.apex_base.specs.declared.moves.Move.{Move}
@@ -114,7 +114,8 @@ module _ (w : World) (law : Lawful w) where
 
   module _ (m : Move) (early : (s t : State) → moved s m ≡ Some t → IsEarlyMove s t)
       (available : (o : Option RollbackState) → is_available (rollback_after m o) ≡ true → is_available o ≡ true) where
-    move_no_more : (r : Record) (t : State) → In r w.sessions → moved r.state m ≡ Some t
+    -- no more is kept after Ready and Abort
+    pub move_no_more : (r : Record) (t : State) → In r w.sessions → moved r.state m ≡ Some t
         → KeepsNoMore w.sessions (with_session (moved_to m available r t) w.sessions)
     move_no_more r t h e =
         let move = early r.state t e in
@@ -137,7 +138,8 @@ module _ (w : World) (law : Lawful w) where
 
   -- Success
 
-  success_no_more : (clock : ℕ) (r : Record) → In r w.sessions → r.state ≡ state.Activated
+  -- nor after Success
+  pub success_no_more : (clock : ℕ) (r : Record) → In r w.sessions → r.state ≡ state.Activated
       → KeepsNoMore w.sessions (after_success clock r w.sessions)
   success_no_more clock r h active =
       no_more w.sessions (after_success clock r w.sessions) (ordered w law) (ordered_success w law clock r h active)
@@ -164,7 +166,8 @@ module _ (w : World) (law : Lawful w) where
 
   -- Revert
 
-  revert_no_more : KeepsNoMore w.sessions (map reverting w.sessions)
+  -- nor after Revert
+  pub revert_no_more : KeepsNoMore w.sessions (map reverting w.sessions)
   revert_no_more =
       no_more w.sessions (map reverting w.sessions) (ordered w law)
       (ordered_map reverting w.sessions (ordered w law) under_reverting) (reverts.carries_all w law)

@@ -1,42 +1,31 @@
 -- Sessions with a new one that a submit makes: they stay in their order, and keep no more of the past. Callers want
 -- `unused`, `fresh`, `carries`, `ordered_after` and `past_stays`.
-use Rattle.std.proofs.Common.{◌≡◌, ◌≢◌, ℕ, Bool, true, false, cond, eqb, ◌&&◌, leb, List, [], ◌∷◌, Option}
+use Rattle.std.proofs.Common.{◌≡◌, ◌≢◌, Bool, true, false, eqb, ◌&&◌, List, [], ◌∷◌, Option}
 use Rattle.std.proofs.Common.{Some, None, sym, ap, subst, ◌∙◌, refl, inl, inr}
 use Rattle.std.specs.Prelude.{not}
 use Rattle.std.proofs.lemmas.Bool.{false≢true, and_parts, and_from}
 use Rattle.apex_base.specs.declared.numbers.SessionId.{SessionId}
-use Rattle.apex_base.specs.declared.records.Part.{Part}
 use Rattle.apex_base.specs.declared.records.Record.{Record}
 use Rattle.apex_base.specs.declared.records.RollbackState.{RollbackState}
 use Rattle.apex_base.specs.declared.records.RollbackState.TheVariants.{Enabling, Available, Committed, Deleted}
-use Rattle.apex_base.specs.declared.records.Target.TheVariants as targets
-use Rattle.apex_base.specs.declared.refusal.Refusal.{Refusal}
-use Rattle.apex_base.specs.declared.refusal.Refusal.TheVariants.{StoreFull}
 use Rattle.apex_base.specs.Commit.{rollback_id, rolls_back}
-use Rattle.apex_base.specs.Held.{is_available, kept}
+use Rattle.apex_base.specs.Held.{is_available}
 use Rattle.apex_base.specs.Members.{In}
-use Rattle.apex_base.specs.Numbers.{scale_file_weight}
 use Rattle.apex_base.specs.Sessions.{session_of, with_session}
 use Rattle.apex_base.proofs.SessionLemmas.{with_any, with_others, of_found, of_in}
 use Rattle.apex_world.specs.declared.modules.Package.{Package}
-use Rattle.apex_world.specs.declared.world.Submission.{Submission}
 use Rattle.apex_world.specs.Follows.{IsNew}
 use Rattle.apex_world.specs.Lawful.{Lawful}
-use Rattle.apex_world.specs.Limits.{weight}
 use Rattle.apex_world.specs.Rows.{is_staged, is_staged_session, may_happen}
-use Rattle.apex_world.specs.Selection.{submitted_by}
-use Rattle.apex_world.specs.StoredAlike.{KeepsPast, AreAlikeInParts}
-use Rattle.apex_world.specs.Submit.{id_taken, submissions_from, rollback_of, print_of, new_session, entered}
-use Rattle.apex_world.specs.Submit.{store_full}
+use Rattle.apex_world.specs.StoredAlike.{KeepsPast}
+use Rattle.apex_world.specs.Submit.{id_taken, rollback_of, print_of, new_session}
 use Rattle.apex_world.specs.World.{World}
-use Rattle.apex_world.proofs.AlikeAfter.{PastStays, like_self, no_past_new, target_in, in_target, same_past}
-use Rattle.apex_world.proofs.AlikeLemmas.{other}
+use Rattle.apex_world.proofs.AlikeAfter.{PastStays, like_self}
 use Rattle.apex_world.proofs.KeptLemmas.{AreOrdered, ordered}
-use Rattle.apex_world.proofs.KeptLess.{IsFresh, Carries, Nothing, Before, New, kept_less}
+use Rattle.apex_world.proofs.KeptLess.{IsFresh, Carries}
 use Rattle.apex_world.proofs.LeadsLemmas.{new_id}
 use Rattle.apex_world.proofs.MovesAlike.{goes_self}
 use Rattle.apex_world.proofs.NewIds.{submit_new}
-use Rattle.apex_world.proofs.OpenedModules.{HaveSameFiles, weight_same}
 use Rattle.apex_world.proofs.OrderedAfter.{ordered_new}
 use Rattle.apex_world.proofs.WorldRows.{same_id}
 use Rattle.apex_world.proofs.StagedSome.{staged_some}

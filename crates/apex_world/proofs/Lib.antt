@@ -1,3 +1,4 @@
+pub mod AbortRows
 pub mod AdmittedIds
 pub mod AdmittedLemmas
 pub mod AdmittedPackages
@@ -63,6 +64,7 @@ pub mod EnteredAlike
 pub mod EnteredModules
 pub mod EnteredSessions
 pub mod Found
+pub mod FreedRows
 pub mod HeldLemmas
 pub mod HeldModules
 pub mod KeptCases
@@ -78,6 +80,7 @@ pub mod ListedOrigins
 pub mod MapsOfRows
 pub mod MomentsAlike
 pub mod MoveStates
+pub mod MovedRows
 pub mod MovedSessions
 pub mod MovesAlike
 pub mod MovesRun
@@ -99,6 +102,7 @@ pub mod OutdatedRollbacks
 pub mod OwnTargets
 pub mod PlainLemmas
 pub mod QuietBoots
+pub mod ReadyRows
 pub mod RefusedLemmas
 pub mod ReportRuns
 pub mod Restored
@@ -119,13 +123,16 @@ pub mod SubmitAlike
 pub mod SubmitRows
 pub mod SubmitRuns
 pub mod SubmitWeight
+pub mod SucceededSessions
 pub mod SuccessAlike
+pub mod SuccessRows
 pub mod SuccessRuns
 pub mod TriggerRuns
 pub mod TriggersAlike
 pub mod TurnLemmas
 pub mod TurnedLemmas
 pub mod TurnedRollbacks
+pub mod TurnedRows
 pub mod TurnedRuns
 pub mod TurnedSessions
 pub mod WatchRuns

@@ -1,13 +1,11 @@
 -- Revert in worlds that are alike. Callers want `revert_alike`.
-use Rattle.std.proofs.Common.{◌≡◌, ◌⊎◌, ℕ, Bool, true, false, cond, eqb, ◌&&◌, List, map, Option, Some, None, sym, ap}
+use Rattle.std.proofs.Common.{◌≡◌, ◌⊎◌, Bool, true, false, cond, eqb, ◌&&◌, List, map, Option, Some, None, sym, ap}
 use Rattle.std.proofs.Common.{subst, ◌∙◌, refl, inl, inr}
 use Rattle.std.specs.Prelude.{not, is_some}
 use Rattle.std.specs.List.{list_any}
-use Rattle.std.specs.Str.{bytes_eq}
 use Rattle.std.proofs.lemmas.Bool.{false≢true, and_parts, and_from, or_right}
 use Rattle.apex_base.specs.declared.moves.Move.TheVariants as step_of
 use Rattle.apex_base.specs.declared.numbers.SessionId.{SessionId}
-use Rattle.apex_base.specs.declared.records.Part.{Part}
 use Rattle.apex_base.specs.declared.records.Record.{Record}
 use Rattle.apex_base.specs.declared.records.RollbackState.{RollbackState}
 use Rattle.apex_base.specs.declared.records.RollbackState.TheVariants.{Enabling, Available, Committed, Deleted}
@@ -16,7 +14,7 @@ use Rattle.apex_base.specs.declared.records.State.TheVariants as state
 use Rattle.apex_base.specs.Commit.{rollback_id, rolls_back}
 use Rattle.apex_base.specs.Held.{is_unfinished, is_undoable, is_standing, is_success, is_available}
 use Rattle.apex_base.specs.Moves.{moved}
-use Rattle.apex_base.specs.Sessions.{names, session_of}
+use Rattle.apex_base.specs.Sessions.{session_of}
 use Rattle.apex_base.proofs.MemberLemmas.{in_map, in_map_back}
 use Rattle.apex_base.proofs.SessionLemmas.{of_found, of_in}
 use Rattle.apex_world.specs.Advance.{in_state, reverting, revert}

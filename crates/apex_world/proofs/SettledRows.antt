@@ -4,7 +4,7 @@ use Rattle.std.proofs.Common.{◌≡◌, ◌⊎◌, ℕ, ◌<◌, ◌^◌, Bool,
 use Rattle.std.proofs.Common.{ap, subst, ◌∙◌, refl, inl, inr}
 use Rattle.std.specs.Prelude.{not, option_and_then}
 use Rattle.std.specs.FinMap as fin
-use Rattle.std.proofs.lemmas.Bool.{false≢true, and_parts}
+use Rattle.std.proofs.lemmas.Bool.{and_parts}
 use Rattle.apex_base.specs.declared.numbers.SessionId.{SessionId}
 use Rattle.apex_base.specs.declared.records.Kind.{Kind}
 use Rattle.apex_base.specs.declared.records.Kind.TheVariants.{Plain, WithRollback, RollbackOf}
@@ -14,7 +14,7 @@ use Rattle.apex_base.specs.declared.records.Target.TheVariants as targets
 use Rattle.apex_base.specs.Commit.{rolls_back}
 use Rattle.apex_base.specs.Held.{kept, is_undoable, is_target}
 use Rattle.apex_base.specs.Keys.{Key, Boots, RecordOf, ActiveOf, BackupOf, FileOf, DataOf, SnapshotOf, PreRestoreOf}
-use Rattle.apex_base.specs.Keys.{WatchOf, IsKey, key_text}
+use Rattle.apex_base.specs.Keys.{WatchOf, IsKey}
 use Rattle.apex_base.specs.Members.{In}
 use Rattle.apex_base.specs.Modules.{FileMap}
 use Rattle.apex_base.specs.Sessions.{names, session_of}
@@ -22,7 +22,7 @@ use Rattle.apex_base.specs.Tables.{value_of}
 use Rattle.apex_base.proofs.SessionLemmas.{of_found, of_in}
 use Rattle.apex_world.specs.Lawful.{Lawful}
 use Rattle.apex_world.specs.Rows.{undoes, may_happen, has_snapshot, has_pre_restore, earlier, row_at, rows}
-use Rattle.apex_world.specs.Rows.{file_row, snapshot_row, pre_restore_row}
+use Rattle.apex_world.specs.Rows.{snapshot_row, pre_restore_row}
 use Rattle.apex_world.specs.RowsAfter.{still, passes, settled_row}
 use Rattle.apex_world.specs.Selection.{submitted_by}
 use Rattle.apex_world.specs.StoredAlike.{KeepsPast}
@@ -88,17 +88,18 @@ pub if_so : {X : Type 0} (b : Bool) (o : Option X) → b ≡ true → cond b o N
 if_so true o e = refl
 if_so false o e = absurd (cc)
 
+-- sessions of the same names and the same boot have the same past
+pub earlier_like : (w : World) (r s : Record) (name key : List ℕ) → IsLike r s → earlier w name key s ≡ earlier w name key r
+earlier_like w r s name key l =
+    ap (λ b. cond b (value_of (era w.eras s.activation) name key) None) (names_same r s name l)
+    ∙ ap (λ n. cond (names name r) (value_of (era w.eras n) name key) None) l.activation
+
 module _ (w : World) (law : Lawful w) (ss' : List Record) (past : PastStays w.sessions ss') where
   found_before : (id : SessionId) (r s : Record) → In r w.sessions → IsLike r s → s.id.0 ≡ id.0
       → session_of w.sessions id ≡ Some r
   found_before id r s h l e =
       ap (session_of w.sessions) (sym (same_id r.id id (ap (λ (id : SessionId). id.0) (sym l.id) ∙ e)))
       ∙ of_in w.sessions r law.ids.ascend h
-
-  earlier_like : (r s : Record) (name key : List ℕ) → IsLike r s → earlier w name key s ≡ earlier w name key r
-  earlier_like r s name key l =
-      ap (λ b. cond b (value_of (era w.eras s.activation) name key) None) (names_same r s name l)
-      ∙ ap (λ n. cond (names name r) (value_of (era w.eras n) name key) None) l.activation
 
   kept_snapshot : (r s : Record) → IsLike r s → has_snapshot ss' s ≡ true → KeepsPast w.sessions r
       → has_snapshot w.sessions r ≡ true
@@ -127,7 +128,7 @@ module _ (w : World) (law : Lawful w) (ss' : List Record) (past : PastStays w.se
       let before : snapshot_row w id name key ≡ earlier w name key r =
       ap (option_and_then (λ (r : Record). cond (has_snapshot w.sessions r) (earlier w name key r) None)) there
       ∙ if_so (has_snapshot w.sessions r) (earlier w name key r) (kept_snapshot r s like e k) in
-      earlier_like r s name key like ∙ sym (world_row w law (SnapshotOf id name key) l ∙ before)
+      earlier_like w r s name key like ∙ sym (world_row w law (SnapshotOf id name key) l ∙ before)
 
   -- what a name had before a session that may be taken back
   pub snapshot_of : (id : SessionId) (name key : List ℕ) → id.0 < 2 ^ 32 → (o : Option Record) → session_of ss' id ≡ o
@@ -147,7 +148,7 @@ module _ (w : World) (law : Lawful w) (ss' : List Record) (past : PastStays w.se
       let before : pre_restore_row w id name key ≡ earlier w name key r =
       ap (option_and_then (λ (r : Record). cond (has_pre_restore r) (earlier w name key r) None)) there
       ∙ if_so (has_pre_restore r) (earlier w name key r) (kept_restore r s like e k) in
-      earlier_like r s name key like ∙ sym (world_row w law (PreRestoreOf id name key) l ∙ before)
+      earlier_like w r s name key like ∙ sym (world_row w law (PreRestoreOf id name key) l ∙ before)
 
   -- what a name had before a rollback session that can be undone
   pub restore_of : (id : SessionId) (name key : List ℕ) → id.0 < 2 ^ 32 → (o : Option Record) → session_of ss' id ≡ o
@@ -161,7 +162,8 @@ module _ (w : World) (law : Lawful w) (ss' : List Record) (less : KeepsNoMore w.
   abbrev after : World
   after = record w { sessions = ss'; clock = clock; failures = failures }
 
-  was_target : (id : SessionId) (part : ℕ) → is_target (kept ss') id part ≡ true
+  -- each file that is kept was kept
+  pub was_target : (id : SessionId) (part : ℕ) → is_target (kept ss') id part ≡ true
       → is_target (kept w.sessions) id part ≡ true
   was_target id part e =
       let (version, h) = target_in (kept ss') id part e in

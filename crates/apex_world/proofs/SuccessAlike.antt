@@ -2,8 +2,6 @@
 use Rattle.std.proofs.Common.{◌≡◌, ◌⊎◌, ℕ, Bool, true, false, cond, eqb, ◌&&◌, List, map, Option, Some, None, sym, ap}
 use Rattle.std.proofs.Common.{subst, ◌∙◌, refl, inl, inr}
 use Rattle.std.specs.Prelude.{not, max}
-use Rattle.std.specs.List.{list_any}
-use Rattle.std.specs.Str.{bytes_eq}
 use Rattle.std.proofs.lemmas.Bool.{false≢true, and_parts, and_from, or_left, or_right, cases_eq}
 use Rattle.apex_base.specs.declared.moves.Move.TheVariants as step_of
 use Rattle.apex_base.specs.declared.numbers.SessionId.{SessionId}
@@ -17,7 +15,7 @@ use Rattle.apex_base.specs.Held.{is_unfinished, is_undoable, is_standing, is_suc
 use Rattle.apex_base.specs.Members.{In}
 use Rattle.apex_base.specs.Moves.{moved}
 use Rattle.apex_base.specs.Rollbacks.{is_enabling, no_longer}
-use Rattle.apex_base.specs.Sessions.{names, shares, session_of}
+use Rattle.apex_base.specs.Sessions.{shares, session_of}
 use Rattle.apex_base.proofs.MemberLemmas.{in_map, in_map_back}
 use Rattle.apex_base.proofs.SessionLemmas.{with_any, with_self, with_others, of_found, of_in, ascend_with, ascend_map}
 use Rattle.apex_world.specs.Advance.{succeeding, outdated_by, after_success, success_to, success_found, success}
@@ -36,27 +34,29 @@ use Rattle.apex_world.proofs.WorldRows.{same_id}
 
 -- What a success leaves of a session
 
-succeeding_like : (b : Bool) (clock : ℕ) (r : Record) → IsLike r
+-- one that succeeds keeps its id, kind, parts and boot
+pub succeeding_like : (b : Bool) (clock : ℕ) (r : Record) → IsLike r
     (cond b (record r { state = state.Success; rollback = Some Available; moment = clock })
     (record r { state = state.Success }))
 succeeding_like true clock r = record { id = refl; kind = refl; parts = refl; activation = refl }
 succeeding_like false clock r = record { id = refl; kind = refl; parts = refl; activation = refl }
 
-succeeding_state : (b : Bool) (clock : ℕ) (r : Record) → (cond b
+-- and is a success
+pub succeeding_state : (b : Bool) (clock : ℕ) (r : Record) → (cond b
     (record r { state = state.Success; rollback = Some Available; moment = clock })
     (record r { state = state.Success })).state ≡ state.Success
 succeeding_state true clock r = refl
 succeeding_state false clock r = refl
 
 -- the rollback that it had, or one that is no longer available
-data HasRollbackOf (r s : Record) : Type 0 where
+pub data HasRollbackOf (r s : Record) : Type 0 where
   Same : s.rollback ≡ r.rollback → HasRollbackOf r s
   NoLonger : s.rollback ≡ no_longer r.rollback → HasRollbackOf r s
 
-record IsOutdated (r s : Record) : Type 0 where
-  like : IsLike r s
-  state : s.state ≡ r.state
-  rollback : HasRollbackOf r s
+pub record IsOutdated (r s : Record) : Type 0 where
+  pub like : IsLike r s
+  pub state : s.state ≡ r.state
+  pub rollback : HasRollbackOf r s
 
 outdated_if : (b : Bool) (r : Record) → IsOutdated r (cond b (record r { rollback = no_longer r.rollback }) r)
 outdated_if true r = record {
@@ -72,7 +72,8 @@ outdated_if false r = record {
   rollback = Same refl;
 }
 
-outdated : (x r : Record) → IsOutdated r (outdated_by x r)
+-- one that may be outdated keeps all but its rollback
+pub outdated : (x r : Record) → IsOutdated r (outdated_by x r)
 outdated x r = outdated_if (shares r x) r
 
 not_available : (o : Option RollbackState) → is_available (no_longer o) ≡ true → is_available o ≡ true

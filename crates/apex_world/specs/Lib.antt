@@ -25,6 +25,7 @@ pub mod RowLaws
 pub mod Rows
 pub mod RowsAfter
 pub mod RowsBooted
+pub mod RowsMoved
 pub mod Running
 pub mod Segments
 pub mod Selection

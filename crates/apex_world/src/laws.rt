@@ -26,6 +26,7 @@ mod likeness;
 mod rollback_data;
 mod rows_after;
 mod rows_booted;
+mod rows_moved;
 mod wholeness;
 
 pub use boot_by_rows::boots_go_by_rows;
@@ -40,6 +41,7 @@ pub use likeness::{
 pub use rollback_data::rollbacks_bring_back_data;
 pub use rows_after::{calls_settle_rows, submits_put_rows};
 pub use rows_booted::boots_settle_rows;
+pub use rows_moved::{abort_changes_rows, ready_changes_rows, success_changes_rows};
 pub use wholeness::activated_sessions_are_whole;
 
 /// A refused call changes nothing, the clock included.

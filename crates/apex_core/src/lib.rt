@@ -1,7 +1,0 @@
-//! The manager of one thread: rows, and beside them what a call needs. A call is judged, then makes a batch, then changes
-//! rows and tables.
-#![tactic(auto)]
-
-mod tables;
-
-pub use tables::Tables;

@@ -1,0 +1,4 @@
+pub mod Choices
+pub mod KeptLemmas
+pub mod OneList
+pub mod Picks
