@@ -77,6 +77,7 @@ pub mod LatestLemmas
 pub mod LeadsLemmas
 pub mod LikenessLaws
 pub mod ListedOrigins
+pub mod MapsOfRows
 pub mod MomentsAlike
 pub mod MoveStates
 pub mod MovedRows

@@ -15,7 +15,7 @@ use Rattle.apex_world.specs.declared.calls.BootOrder.{BootOrder}
 use Rattle.apex_world.specs.Boot.{become, started, boot_loop, after_loop, boot_world, changed_to, changed_in, changes}
 use Rattle.apex_world.specs.Boot.{told_loop, boot_reply}
 use Rattle.apex_world.specs.BootByRows.{become_in, sessions_in, active_in, chosen_in, with_moment, reply_in}
-use Rattle.apex_world.specs.BootByRows.{GoesByRows, BootsGoByRows}
+use Rattle.apex_world.specs.BootByRows.{row_in, GoesByRows, BootsGoByRows}
 use Rattle.apex_world.specs.Invariance.{IsOrderOf}
 use Rattle.apex_world.specs.Lawful.{Lawful}
 use Rattle.apex_world.specs.Plain.{moments_left, plain_loop}
@@ -25,10 +25,12 @@ use Rattle.apex_world.specs.Selection.{Mounts}
 use Rattle.apex_world.specs.Trigger.{Triggered, eligible, triggered}
 use Rattle.apex_world.specs.World.{World, boots}
 use Rattle.apex_world.proofs.BootedRows.{booted_rows}
+use Rattle.apex_world.proofs.BootLoops.{boots_running}
 use Rattle.apex_world.proofs.BootLaws.{number, turn, after, keeps, number_is}
 use Rattle.apex_world.proofs.BootModules.{kept_before}
 use Rattle.apex_world.proofs.KeptCases.{become_by_rows, chosen_by_rows}
 use Rattle.apex_world.proofs.MomentsAlike.{five_of, looping_alike}
+use Rattle.apex_world.proofs.MapsOfRows.{map_is_rows}
 use Rattle.apex_world.proofs.PlainLemmas.{map_by, flat_map_by}
 
 -- who acts, where nobody may
@@ -178,8 +180,7 @@ module _ (w : World) (law : Lawful w) (order : BootOrder) (o : IsOrderOf w order
   row_recent rows before ss b xs ys e (WatchOf observer name) = refl
 
   rows_by_rows : (k : Key) → IsKey k → row_at after_it k
-      ≡ booted_row (rows w) w.sessions (sessions_in mounts (rows w) order n w.sessions) order n
-      (moments_left order.time (with_moment (last_five w.moments) order)) k
+      ≡ row_in mounts (rows w) order n w.sessions (last_five w.moments) k
   rows_by_rows k i =
       booted_rows w law order o mounts k i
       ∙ ap (λ (ss : List Record). booted_row (rows w) w.sessions ss order (boots after_it) after_it.moments k)
@@ -188,6 +189,11 @@ module _ (w : World) (law : Lawful w) (order : BootOrder) (o : IsOrderOf w order
       after_it.moments k) boots_by_number
       ∙ row_recent (rows w) w.sessions (sessions_in mounts (rows w) order n w.sessions) n after_it.moments
       (moments_left order.time (with_moment (last_five w.moments) order)) moments_by_rows k
+
+  next_row : (k : Key) → IsKey k → row_at after_it k
+      ≡ row_in mounts (rows w) order (boots w + 1) w.sessions (last_five w.moments) k
+  next_row k i = rows_by_rows k i
+      ∙ ap (λ (b : ℕ). row_in mounts (rows w) order b w.sessions (last_five w.moments) k) is_next
 
   goes : GoesByRows w order mounts
   goes = record {
@@ -201,9 +207,9 @@ module _ (w : World) (law : Lawful w) (order : BootOrder) (o : IsOrderOf w order
     scale = ap (λ (u : World). u.scale) (quiet_world w order alone mounts);
     clock = ap (λ (u : World). u.clock) (quiet_world w order alone mounts);
     failures = ap (λ (u : World). u.failures) (quiet_world w order alone mounts);
-    row = λ k i. rows_by_rows k i ∙ ap (λ (b : ℕ). booted_row (rows w) w.sessions
-        (sessions_in mounts (rows w) order b w.sessions) order b
-        (moments_left order.time (with_moment (last_five w.moments) order)) k) is_next;
+    row = next_row;
+    map = λ after typed same. map_is_rows after_it (boots_running w law order o mounts).lawful after typed
+        (λ k i. same k i ∙ sym (next_row k i));
   }
 
 -- a boot of a lawful world without observers goes by rows

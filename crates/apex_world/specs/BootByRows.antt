@@ -97,6 +97,15 @@ reply_in mounts rows order b sessions recent = record {
   boot_loop = plain_loop order.time (with_moment recent order);
 }
 
+-- each key of the rows is that of something
+abbrev pub HasTypedKeys : RowMap → Type 0
+HasTypedKeys rows = (q v : List ℕ) → fin.get rows q ≡ Some v → (k : Key) × IsKey k × (q ≡ key_text k)
+
+-- the row at a key after boot b without observers
+abbrev pub row_in : Mounts → RowMap → BootOrder → ℕ → List Record → List ℕ → Key → Option (List ℕ)
+row_in mounts rows order b sessions recent k =
+    booted_row rows sessions (sessions_in mounts rows order b sessions) order b (moments_left order.time (with_moment recent order)) k
+
 -- a boot goes by the rows, the sessions and the last five moments
 pub record GoesByRows (w : World) (order : BootOrder) (mounts : Mounts) : Type 0 where
   pub reply : boot_reply w order mounts ≡ reply_in mounts (rows w) order (boots w + 1) w.sessions (last_five w.moments)
@@ -110,8 +119,11 @@ pub record GoesByRows (w : World) (order : BootOrder) (mounts : Mounts) : Type 0
   pub clock : (boot_world w order mounts).clock ≡ order.time
   pub failures : (boot_world w order mounts).failures ≡ fin.empty
   pub row : (k : Key) → IsKey k → row_at (boot_world w order mounts) k
-      ≡ booted_row (rows w) w.sessions (sessions_in mounts (rows w) order (boots w + 1) w.sessions) order (boots w + 1)
-      (moments_left order.time (with_moment (last_five w.moments) order)) k
+      ≡ row_in mounts (rows w) order (boots w + 1) w.sessions (last_five w.moments) k
+  -- and rows that have these are those of the world
+  pub map : (after : RowMap) → HasTypedKeys after
+      → ((k : Key) → IsKey k → fin.get after (key_text k) ≡ row_in mounts (rows w) order (boots w + 1) w.sessions (last_five w.moments) k)
+      → after ≡ rows (boot_world w order mounts)
 
 -- so does each without observers
 abbrev pub BootsGoByRows : Type 0
