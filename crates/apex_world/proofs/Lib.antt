@@ -49,6 +49,7 @@ pub mod CommitTurns
 pub mod CommitUndone
 pub mod CommitWays
 pub mod CommitsAlike
+pub mod CommitsSettle
 pub mod DataRuns
 pub mod DataWeightLemmas
 pub mod DecidedIds
@@ -123,12 +124,15 @@ pub mod SubmitRuns
 pub mod SubmitWeight
 pub mod SucceededSessions
 pub mod SuccessAlike
+pub mod SuccessKept
+pub mod SuccessPast
 pub mod SuccessRows
 pub mod SuccessRuns
 pub mod TriggerRuns
 pub mod TriggersAlike
 pub mod TurnLemmas
 pub mod TurnedLemmas
+pub mod TurnedLists
 pub mod TurnedRollbacks
 pub mod TurnedRows
 pub mod TurnedRuns
