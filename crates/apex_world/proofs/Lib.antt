@@ -1,4 +1,5 @@
 pub mod AbortRows
+pub mod AbortedFiles
 pub mod AdmittedIds
 pub mod AdmittedLemmas
 pub mod AdmittedPackages
@@ -68,6 +69,7 @@ pub mod Found
 pub mod FreedRows
 pub mod HeldLemmas
 pub mod HeldModules
+pub mod KeptByName
 pub mod KeptCases
 pub mod KeptLemmas
 pub mod KeptLess
@@ -99,6 +101,7 @@ pub mod OpenedTables
 pub mod OrderedAfter
 pub mod OutdatedRollbacks
 pub mod OwnTargets
+pub mod PartOwners
 pub mod PlainLemmas
 pub mod QuietBoots
 pub mod ReadyRows

@@ -21,6 +21,7 @@ mod boot_by_rows;
 mod decided;
 mod invariance_of_boots;
 mod invariance_of_calls;
+mod kept_by_name;
 mod likeness;
 mod rollback_data;
 mod rows_after;
@@ -32,6 +33,7 @@ pub use boot_by_rows::boots_go_by_rows;
 pub use decided::lawful_worlds_are_decided;
 pub use invariance_of_boots::boots_lead_to_running;
 pub use invariance_of_calls::calls_keep_running;
+pub use kept_by_name::modules_are_kept_by_name;
 pub use likeness::{
     boots_tell_no_alike_worlds_apart, calls_tell_no_alike_worlds_apart,
     worlds_of_the_same_parts_stay_so,
