@@ -1,6 +1,7 @@
 -- The rows after Abort. Callers want `abort_rows`.
 use Rattle.std.proofs.Common.{◌≡◌, ◌⊎◌, ℕ, ◌+◌, true, false, cond, eqb, ◌&&◌, List, map, Option, Some, None}
 use Rattle.std.proofs.Common.{sym, ap, subst, ◌∙◌, refl, inl, inr, arith}
+use Rattle.std.proofs.Common.{◌≢◌}
 use Rattle.std.specs.Prelude.{not}
 use Rattle.std.specs.Option.{option_map}
 use Rattle.std.proofs.lemmas.Bool.{false≢true, and_right, eqb-true, eq-eqb}
@@ -18,6 +19,7 @@ use Rattle.apex_base.specs.declared.records.Target.{Target}
 use Rattle.apex_base.specs.declared.records.Target.TheVariants as targets
 use Rattle.apex_base.specs.Commit.{rollback_id, rolls_back, is_waiting}
 use Rattle.apex_base.specs.Held.{kept, is_target}
+use Rattle.apex_base.specs.Held.{is_standing, is_undoable, before}
 use Rattle.apex_base.specs.Keys.{Key, Boots, RecordOf, ActiveOf, BackupOf, FileOf, DataOf, SnapshotOf, PreRestoreOf}
 use Rattle.apex_base.specs.Keys.{WatchOf}
 use Rattle.apex_base.specs.Members.{In}
@@ -38,14 +40,16 @@ use Rattle.apex_world.proofs.KeptLemmas.{kept_back}
 use Rattle.apex_world.proofs.MovesAlike.{IsEarlyMove, abort_early, abort_available}
 use Rattle.apex_world.proofs.SessionMaps.{put_for}
 use Rattle.apex_world.proofs.SettledRows.{KeepsNoMore, was_target}
-use Rattle.apex_world.proofs.TurnedRows.{by_answer, active_same, backup_same}
-use Rattle.apex_world.proofs.TurnedRows.{restores_same, snapshot_same}
+use Rattle.apex_world.proofs.TurnedLists.{by_answer, active_same, backup_same}
+use Rattle.apex_world.proofs.TurnedLists.{restores_same}
+use Rattle.apex_world.proofs.TurnedRows.{snapshot_same}
 use Rattle.apex_world.proofs.TurnedRows.{restore_same, snapshot_gone}
-use Rattle.apex_world.proofs.MovedRows.{as_map, ids, either, like, put_self, standing, undoable, before_is, keeps_on, own_other}
+use Rattle.apex_world.proofs.MovedRows.{as_map, ids, either, like, put_self, standing, undoable, before_is}
+use Rattle.apex_world.proofs.MovedRows.{keeps_on, own_other}
 use Rattle.apex_world.proofs.MovedRows.{record_after, has_else, taken, put_other}
 use Rattle.apex_world.proofs.WorldRows.{same_id}
 use Rattle.apex_world.proofs.FreedRows.{freed_row}
-use Rattle.apex_world.proofs.TurnedRows.{found_after}
+use Rattle.apex_world.proofs.TurnedLists.{found_after}
 use Rattle.apex_base.specs.Settled.{active_of, backup_of}
 use Rattle.apex_world.specs.Rows.{pre_restore_row}
 
@@ -104,6 +108,22 @@ module _ (w : World) (law : Lawful w) (r : Record) (h : In r w.sessions) (waits 
   same_ids : (x : Record) → (g x).id ≡ x.id
   same_ids = ids w law r h state.Aborted (rollback_after step_of.Abort r.rollback) early
 
+  from : (x : Record) → In x ss → ((x ≡ r) × (g x ≡ r')) ⊎ ((x.id.0 ≢ r.id.0) × (g x ≡ x))
+  from = either w law r h state.Aborted (rollback_after step_of.Abort r.rollback) early
+
+  stands : (x : Record) → In x ss → is_standing (g x).state ≡ is_standing x.state
+  stands = standing w law r h state.Aborted (rollback_after step_of.Abort r.rollback) early
+
+  undoes_same : (x : Record) → In x ss → is_undoable (g x).state ≡ is_undoable x.state
+  undoes_same = undoable w law r h state.Aborted (rollback_after step_of.Abort r.rollback) early
+
+  before_same : (x : Record) (name : List ℕ) → In x ss → before after (g x) name ≡ before ss x name
+  before_same = before_is w law r h state.Aborted (rollback_after step_of.Abort r.rollback) early
+
+  takes : (x z : Record) → In x ss → is_committed x.rollback ≡ true → session_of ss (rollback_id x.id) ≡ Some z → z ≡ r
+      → r.kind ≡ RollbackOf x.id
+  takes = taken w law r h state.Aborted (rollback_after step_of.Abort r.rollback) early
+
   less : KeepsNoMore ss after
   less = subst (KeepsNoMore ss) is_map
       (move_no_more w law step_of.Abort abort_early abort_available r state.Aborted h may_move)
@@ -117,11 +137,13 @@ module _ (w : World) (law : Lawful w) (r : Record) (h : In r w.sessions) (waits 
   still_kept : (y : Target) → In y (kept ss) → In y own_targets ⊎ In y (kept after)
   still_kept y k =
       let (x, p, i, j, way) = kept_back ss y k in
-      keeps_on w law r h state.Aborted (rollback_after step_of.Abort r.rollback) early (In y own_targets) x p y i j way (λ u e.
-      elim (either w law r h state.Aborted (rollback_after step_of.Abort r.rollback) early x i) [
+      keeps_on w law r h state.Aborted (rollback_after step_of.Abort r.rollback) early (In y own_targets) x p y i j way
+      (λ u e.
+      elim (from x i) [
         | inl (same, is) ↦ inl (subst (λ (y : Target). In y own_targets) (sym e)
             (in_map (λ (p : Part). p.target) p r.parts (subst (λ (q : Record). In p q.parts) same j)))
-        | inr (d, is) ↦ inr (own_other w law r h state.Aborted (rollback_after step_of.Abort r.rollback) early x p y i j d u e)
+        | inr (d, is) ↦ inr (own_other w law r h state.Aborted (rollback_after step_of.Abort r.rollback) early x p y
+            i j d u e)
       ])
 
   still_target : (session : SessionId) (part : ℕ) → is_target (kept ss) session part ≡ true
@@ -169,8 +191,9 @@ module _ (w : World) (law : Lawful w) (r : Record) (h : In r w.sessions) (waits 
       → In x ss × (has_snapshot after (g x) ≡ has_snapshot ss x)
   past_same id none x f =
       let (i, e) = of_found ss id x f in
-      has_else w law r h state.Aborted (rollback_after step_of.Abort r.rollback) early x (ap (session_of ss) (same_id x.id id e) ∙ f)
-      (λ z c found one. false≢true (sym none ∙ ap (λ (k : Kind). takes_back k id) (taken w law r h state.Aborted (rollback_after step_of.Abort r.rollback) early x z i c found one)
+      has_else w law r h state.Aborted (rollback_after step_of.Abort r.rollback) early x
+      (ap (session_of ss) (same_id x.id id e) ∙ f)
+      (λ z c found one. false≢true (sym none ∙ ap (λ (k : Kind). takes_back k id) (takes x z i c found one)
       ∙ eq-eqb x.id.0 id.0 e))
 
   snapshot_after : (id : SessionId) (name key : List ℕ) → snapshot_row (world_of after) id name key
@@ -186,22 +209,22 @@ module _ (w : World) (law : Lawful w) (r : Record) (h : In r w.sessions) (waits 
   abort_at Boots = refl
   abort_at (RecordOf id) = record_after w law r h state.Aborted (rollback_after step_of.Abort r.rollback) early id
   abort_at (ActiveOf name) = subst (λ zs. active_of zs name ≡ active_of ss name) (sym is_map)
-      (active_same ss g likes name (standing w law r h state.Aborted (rollback_after step_of.Abort r.rollback) early))
+      (active_same ss g likes name (stands))
   abort_at (BackupOf name) = subst (λ zs. backup_of zs name ≡ backup_of ss name) (sym is_map)
-      (backup_same ss g likes name (λ x i n. undoable w law r h state.Aborted (rollback_after step_of.Abort r.rollback) early x i) (λ x i n. before_is w law r h state.Aborted (rollback_after step_of.Abort r.rollback) early x name i))
+      (backup_same ss g likes name (λ x i n. undoes_same x i) (λ x i n. before_same x name i))
   abort_at (FileOf session part path) =
       subst (λ zs. file_row (world_of zs) session part path
       ≡ freed (has_target r session part) zs session part (file_row w session part path)) (sym is_map)
       (file_after session part path)
   abort_at (DataOf name key) = refl
   abort_at (SnapshotOf id name key) =
-      subst (λ zs. snapshot_row (world_of zs) id name key ≡ cond (takes_back r.kind id) None (snapshot_row w id name key))
-      (sym is_map) (snapshot_after id name key)
+      subst (λ zs. snapshot_row (world_of zs) id name key
+      ≡ cond (takes_back r.kind id) None (snapshot_row w id name key)) (sym is_map) (snapshot_after id name key)
   abort_at (PreRestoreOf id name key) =
       subst (λ zs. pre_restore_row (world_of zs) id name key ≡ pre_restore_row w id name key) (sym is_map)
       (restore_same w g same_ids likes w.clock w.failures id name key (λ x f.
       let (i, e) = of_found ss id x f in
-      (i, restores_same ss g likes x i (undoable w law r h state.Aborted (rollback_after step_of.Abort r.rollback) early x i))))
+      (i, restores_same ss g likes x i (undoes_same x i))))
   abort_at (WatchOf observer name) = refl
 
 -- what Abort changes
@@ -209,5 +232,6 @@ pub abort_rows : (w : World) → Lawful w → (id : SessionId) (r : Record) → 
     → is_waiting r.state ≡ true → (k : Key) → row_at (abort w id).world k ≡ abort_row w r k
 abort_rows w law id r f waits k =
     ap (λ o. row_at (move_found w w.clock id step_of.Abort o).world k) f
-    ∙ ap (λ o. row_at (move_to w w.clock r step_of.Abort o).world k) (may_move w law r (of_found w.sessions id r f).0 waits)
+    ∙ ap (λ o. row_at (move_to w w.clock r step_of.Abort o).world k)
+    (may_move w law r (of_found w.sessions id r f).0 waits)
     ∙ abort_at w law r (of_found w.sessions id r f).0 waits k

@@ -1,6 +1,7 @@
--- After a call that changes sessions alone, the rows are those that the sessions settle. Callers want `call_settles`.
-use Rattle.std.proofs.Common.{◌≡◌, ℕ, ◌<◌, Bool, true, false, cond, ◌++◌, max, List, [], ◌∷◌, map, filter, is_some, Option}
-use Rattle.std.proofs.Common.{Some, None, find, Result, Ok, Err, refl, inl, inr, arith}
+-- After a call that changes sessions alone, the rows are those that the sessions settle. Callers want `move_no_more`,
+-- `success_no_more`, `revert_no_more` and `call_settles`.
+use Rattle.std.proofs.Common.{◌≡◌, ℕ, Bool, true, false, cond, ◌++◌, max, List, [], ◌∷◌, map, filter, is_some, Option}
+use Rattle.std.proofs.Common.{Some, None, find, Result, Ok, Err, refl}
 use Rattle.std.specs.List.{list_any}
 use Rattle.std.specs.FinMap as fin
 use Rattle.apex_base.specs.declared.moves.Move.{Move}
@@ -20,15 +21,11 @@ use Rattle.apex_base.specs.Keys.{Key, IsKey}
 use Rattle.apex_base.specs.Members.{In}
 use Rattle.apex_base.specs.Moves.{moved}
 use Rattle.apex_base.specs.Results.{◌>>=◌}
-use Rattle.apex_base.specs.Sessions.{has_id, session_of, with_session, Ascend}
+use Rattle.apex_base.specs.Sessions.{has_id, session_of, with_session}
 use Rattle.apex_base.specs.Windows.{is_failing}
-use Rattle.apex_base.proofs.MemberLemmas.{each_in}
 use Rattle.apex_base.proofs.SessionLemmas.{of_found}
 use Rattle.apex_world.specs.declared.calls.Call.{Call}
 use Rattle.apex_world.specs.declared.calls.Call.TheVariants as calls
-use Rattle.apex_world.specs.declared.calls.Observer.{Observer}
-use Rattle.apex_world.specs.declared.calls.ObserverKind.{ObserverKind}
-use Rattle.apex_world.specs.declared.calls.ObserverKind.TheVariants.{Fixed, Rollback}
 use Rattle.apex_world.specs.declared.calls.Reply.TheVariants as reply
 use Rattle.apex_world.specs.Advance.{rollback_after, move_to, move_found, after_success, success_to, success_found}
 use Rattle.apex_world.specs.Advance.{reverting, told}
@@ -40,60 +37,21 @@ use Rattle.apex_world.specs.RowsAfter.{settled_row, changes_sessions}
 use Rattle.apex_world.specs.Step.{step}
 use Rattle.apex_world.specs.Stepped.{refused, done, answered}
 use Rattle.apex_world.specs.Submit.{pass, print_of}
-use Rattle.apex_world.specs.Trigger.{acting_among, commits, commit_all, acted, triggered}
 use Rattle.apex_world.specs.Watching.{is_watching}
 use Rattle.apex_world.specs.World.{World, Failures}
 use Rattle.apex_world.proofs.CallStays.{chosen, among_asked, asked_ascend}
-use Rattle.apex_world.proofs.CommitTurns.{CanCommit, carries_commit, nothing_commit, ordered_commit, can_after}
-use Rattle.apex_world.proofs.CommitTurns as turns
 use Rattle.apex_world.proofs.CommitsAlike.{can_commit}
-use Rattle.apex_world.proofs.KeptLemmas.{AreOrdered, ordered}
+use Rattle.apex_world.proofs.KeptLemmas.{ordered}
 use Rattle.apex_world.proofs.MovesAlike.{IsEarlyMove, ready_early, abort_early, abort_available, carries_one}
 use Rattle.apex_world.proofs.MovesAlike.{goes_early, under_early, moved_to}
 use Rattle.apex_world.proofs.MovesAlike as moves
 use Rattle.apex_world.proofs.OrderedAfter.{ordered_one, ordered_map}
 use Rattle.apex_world.proofs.RevertAlike.{under_reverting}
 use Rattle.apex_world.proofs.RevertAlike as reverts
-use Rattle.apex_world.proofs.SettledRows.{KeepsNoMore, no_more, no_more_self, no_more_then, settled}
+use Rattle.apex_world.proofs.SettledRows.{KeepsNoMore, no_more, no_more_self, settled}
 use Rattle.apex_world.proofs.SuccessAlike.{success_from, ordered_success}
 use Rattle.apex_world.proofs.SuccessAlike as successes
-
--- Commits, one after another
-
--- one commit
-pub commit_no_more : (ss : List Record) → AreOrdered ss → (x : Record) → CanCommit ss x → (print : List ℕ)
-    → KeepsNoMore ss (committed ss x print)
-commit_no_more ss law x can print =
-    no_more ss (committed ss x print) law (ordered_commit ss law x can print) (carries_commit ss law x can print)
-    (nothing_commit ss law x can print) (turns.past_stays ss law x can print)
-
--- any number of them, each of another session
-pub commits_no_more : (print : List ℕ) (xs ss : List Record) → AreOrdered ss → Ascend xs
-    → ((x : Record) → In x xs → CanCommit ss x) → KeepsNoMore ss (commit_all print ss xs)
-commits_no_more print [] ss law b can = no_more_self ss
-commits_no_more print (x ∷ xs) ss law b can =
-    let here = can x (inl refl) in
-    let mid = committed ss x print in
-    no_more_then ss mid (commit_all print mid xs) (commit_no_more ss law x here print)
-    (commits_no_more print xs mid (ordered_commit ss law x here print) b.1 (λ y h.
-    let l = each_in (λ (s : Record). x.id.0 < s.id.0) xs b.0 y h in
-    can_after ss law x here print y (can y (inr h)) (λ e. omega (arith, l, e))))
-
-module _ (ss : List Record) (law : AreOrdered ss) (print : List ℕ) (xs : List Record) (ascend : Ascend xs)
-    (can : (x : Record) → In x xs → CanCommit ss x) where
-  kind_no_more : (k : ObserverKind) → KeepsNoMore ss (commit_all print ss (commits xs k))
-  kind_no_more (Fixed level) = no_more_self ss
-  kind_no_more Rollback = commits_no_more print xs ss law ascend can
-
-  acted_no_more : (o : Option Observer) → KeepsNoMore ss (acted ss print xs o).sessions
-  acted_no_more None = no_more_self ss
-  acted_no_more (Some o) = kind_no_more o.kind
-
-  -- a trigger, whoever acts
-  pub trigger_no_more : (observers : List Observer) → KeepsNoMore ss (triggered ss print xs observers).sessions
-  trigger_no_more observers = acted_no_more (acting_among xs observers)
-
--- Calls
+use Rattle.apex_world.proofs.CommitsSettle.{commit_no_more, trigger_no_more}
 
 -- the rows of v are those that its sessions settle from the rows of w
 abbrev pub IsSettled : World → World → Type 0

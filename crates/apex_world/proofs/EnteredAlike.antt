@@ -46,7 +46,8 @@ module _ (w v : World) (a : AreAlikeInParts w v) (law : Lawful w) (law' : Lawful
 
   none_of : (y : World) → Lawful y → w.sessions ≡ y.sessions → (part : ℕ) → submitted_by y.modules id part ≡ None
   none_of y lawful same part = none_if y lawful id
-      (subst (λ (ss : List Record). (r : Record) → In r ss → r.id.0 ≢ id.0) same (unused w law id children rollback ps free)) part
+      (subst (λ (ss : List Record). (r : Record) → In r ss → r.id.0 ≢ id.0) same
+      (unused w law id children rollback ps free)) part
       (submitted_by y.modules id part) refl
 
   -- a new target is of the new session, of which neither world has a module

@@ -27,8 +27,8 @@ freed_if false false true o less more = refl
 freed_if false false false o less more = refl
 
 -- where what is kept was kept, and what was kept is kept or given up
-pub freed_row : (w : World) (ss' : List Record) (clock : ℕ) (failures : Failures) (given_up : Bool) (session : SessionId)
-    (part : ℕ) (path : List ℕ)
+pub freed_row : (w : World) (ss' : List Record) (clock : ℕ) (failures : Failures) (given_up : Bool)
+    (session : SessionId) (part : ℕ) (path : List ℕ)
     → (is_target (kept ss') session part ≡ true → is_target (kept w.sessions) session part ≡ true)
     → (is_target (kept w.sessions) session part ≡ true
     → (given_up ≡ true) ⊎ (is_target (kept ss') session part ≡ true))

@@ -1,4 +1,5 @@
 pub mod AbortRows
+pub mod AbortedFiles
 pub mod AdmittedIds
 pub mod AdmittedLemmas
 pub mod AdmittedPackages
@@ -49,6 +50,7 @@ pub mod CommitTurns
 pub mod CommitUndone
 pub mod CommitWays
 pub mod CommitsAlike
+pub mod CommitsSettle
 pub mod DataRuns
 pub mod DataWeightLemmas
 pub mod DecidedIds
@@ -67,6 +69,7 @@ pub mod Found
 pub mod FreedRows
 pub mod HeldLemmas
 pub mod HeldModules
+pub mod KeptByName
 pub mod KeptCases
 pub mod KeptLemmas
 pub mod KeptLess
@@ -100,6 +103,7 @@ pub mod OpenedTables
 pub mod OrderedAfter
 pub mod OutdatedRollbacks
 pub mod OwnTargets
+pub mod PartOwners
 pub mod PlainLemmas
 pub mod QuietBoots
 pub mod ReadyRows
@@ -125,12 +129,15 @@ pub mod SubmitRuns
 pub mod SubmitWeight
 pub mod SucceededSessions
 pub mod SuccessAlike
+pub mod SuccessKept
+pub mod SuccessPast
 pub mod SuccessRows
 pub mod SuccessRuns
 pub mod TriggerRuns
 pub mod TriggersAlike
 pub mod TurnLemmas
 pub mod TurnedLemmas
+pub mod TurnedLists
 pub mod TurnedRollbacks
 pub mod TurnedRows
 pub mod TurnedRuns

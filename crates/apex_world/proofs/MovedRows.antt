@@ -31,8 +31,8 @@ use Rattle.apex_world.proofs.KeptLemmas.{stands_activated}
 use Rattle.apex_world.proofs.MovesAlike.{IsEarlyMove}
 use Rattle.apex_world.proofs.OpenedSessions.{one_session}
 use Rattle.apex_world.proofs.SessionMaps.{put_for, same_put, with_as_map}
-use Rattle.apex_world.proofs.TurnedRows.{by_answer, held_same, before_same, has_same}
-use Rattle.apex_world.proofs.TurnedRows.{staged_same, may_same}
+use Rattle.apex_world.proofs.TurnedLists.{by_answer, held_same, before_same, has_same}
+use Rattle.apex_world.proofs.TurnedLists.{staged_same, may_same}
 
 -- A session put in its place
 
@@ -207,8 +207,8 @@ module _ (w : World) (law : Lawful w) (r : Record) (h : In r w.sessions) (t : St
       ]
 
   -- a session that takes one back is that of its rollback
-  pub taken : (x z : Record) → In x ss → is_committed x.rollback ≡ true → session_of ss (rollback_id x.id) ≡ Some z → z ≡ r
-      → r.kind ≡ RollbackOf x.id
+  pub taken : (x z : Record) → In x ss → is_committed x.rollback ≡ true
+      → session_of ss (rollback_id x.id) ≡ Some z → z ≡ r → r.kind ≡ RollbackOf x.id
   taken x z i c found one =
       let (q, f, kind) = law.undone.forth x i c in
       let same : q ≡ z = cc in

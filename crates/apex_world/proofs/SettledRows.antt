@@ -89,7 +89,8 @@ if_so true o e = refl
 if_so false o e = absurd (cc)
 
 -- sessions of the same names and the same boot have the same past
-pub earlier_like : (w : World) (r s : Record) (name key : List ℕ) → IsLike r s → earlier w name key s ≡ earlier w name key r
+pub earlier_like : (w : World) (r s : Record) (name key : List ℕ) → IsLike r s
+    → earlier w name key s ≡ earlier w name key r
 earlier_like w r s name key l =
     ap (λ b. cond b (value_of (era w.eras s.activation) name key) None) (names_same r s name l)
     ∙ ap (λ n. cond (names name r) (value_of (era w.eras n) name key) None) l.activation
@@ -107,7 +108,8 @@ module _ (w : World) (law : Lawful w) (ss' : List Record) (past : PastStays w.se
   kept_snapshot r s l e (inr k) =
       let kind = (and_parts (rolls_back s.kind) (not (eqb s.activation 0)) (and_parts
       (rolls_back s.kind && not (eqb s.activation 0)) (may_happen ss' s.id s.rollback) e).0).0 in
-      absurd (two_kinds r.kind (ap rolls_back (sym l.kind) ∙ kind) (and_parts (undoes r.kind) (is_undoable r.state) k).0)
+      absurd (two_kinds r.kind (ap rolls_back (sym l.kind) ∙ kind)
+      (and_parts (undoes r.kind) (is_undoable r.state) k).0)
 
   kept_restore : (r s : Record) → IsLike r s → has_pre_restore s ≡ true → KeepsPast w.sessions r
       → has_pre_restore r ≡ true

@@ -48,7 +48,8 @@ package_there id k (p ∷ ps) (suc n) part e =
     later_found id k part p ps (λ f. omega (arith, e, f)) ∙ package_there id (k + 1) ps n part (omega (arith, e))
 
 abbrev part_of_package : SessionId → ℕ → Package → Part
-part_of_package id part p = record { name = p.name; version = Some p.version; target = targets.Module id part p.version }
+part_of_package id part p =
+    record { name = p.name; version = Some p.version; target = targets.Module id part p.version }
 
 -- and its part is there
 part_there : (id : SessionId) (k : ℕ) (ps : List Package) (n part : ℕ) (p : Package) → part ≡ k + n

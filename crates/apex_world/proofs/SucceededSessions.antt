@@ -1,53 +1,29 @@
--- Sessions after one has succeeded: what names hold and held, and what is kept. Callers want `as_map`, `either`, `like`,
--- `before_is` and `still_target`.
-use Rattle.std.proofs.Common.{◌≡◌, ◌≢◌, ◌⊎◌, ℕ, ◌≤◌, Bool, true, false, cond, ◌&&◌, ◌||◌, List, [], ◌∷◌, map, find}
-use Rattle.std.proofs.Common.{Option, Some, None, sym, ap, subst, ◌∙◌, refl, inl, inr, arith}
-use Rattle.std.specs.Str.{bytes_eq}
-use Rattle.std.proofs.lemmas.Bool.{false≢true, false_from_ne_true, and_from, or_cases, or_left, or_right, cases_eq}
+-- Sessions after one has succeeded, and what names held before. Callers want `as_map`, `ids`, `either`, `like`,
+-- `standing`, `staged`, `none_beside` and `before_is`.
+use Rattle.std.proofs.Common.{◌≡◌, ◌≢◌, ◌⊎◌, ℕ, Bool, true, false, cond, ◌&&◌, List, map}
+use Rattle.std.proofs.Common.{Option, Some, None, sym, ap, subst, ◌∙◌, refl, inl, inr}
+use Rattle.std.proofs.lemmas.Bool.{cases_eq}
 use Rattle.apex_base.specs.declared.numbers.SessionId.{SessionId}
-use Rattle.apex_base.specs.declared.records.Part.{Part}
 use Rattle.apex_base.specs.declared.records.Record.{Record}
 use Rattle.apex_base.specs.declared.records.RollbackState.{RollbackState}
 use Rattle.apex_base.specs.declared.records.RollbackState.TheVariants.{Enabling, Available, Committed, Deleted}
 use Rattle.apex_base.specs.declared.records.State.{State}
 use Rattle.apex_base.specs.declared.records.State.TheVariants as state
-use Rattle.apex_base.specs.declared.records.Target.{Target}
-use Rattle.apex_base.specs.declared.records.Target.TheVariants as targets
-use Rattle.apex_base.specs.Held.{is_unfinished, is_undoable, is_standing, is_success, is_available, held, before, kept}
-use Rattle.apex_base.specs.Held.{is_target}
-use Rattle.apex_base.specs.Members.{In, EachPair}
+use Rattle.apex_base.specs.Held.{is_unfinished, is_standing, is_success, is_available, before}
+use Rattle.apex_base.specs.Members.{In}
 use Rattle.apex_base.specs.Rollbacks.{is_enabling, no_longer}
 use Rattle.apex_base.specs.Sessions.{names, shares}
-use Rattle.apex_base.proofs.MemberLemmas.{in_map, in_any, each_in}
 use Rattle.apex_world.specs.Advance.{succeeding, outdated_by, after_success}
 use Rattle.apex_world.specs.Lawful.{Lawful}
 use Rattle.apex_world.specs.Rows.{is_staged}
-use Rattle.apex_world.specs.RowsMoved.{outdates, goes_back_to, gives_up_file}
+use Rattle.apex_world.specs.RowsMoved.{outdates}
 use Rattle.apex_world.specs.World.{World}
-use Rattle.apex_world.proofs.AlikeAfter.{IsLike, target_in, in_target}
-use Rattle.apex_world.proofs.KeptLemmas.{Own, Holds, Backs, kept_back, keeps, names_own, eq_name, ordered, same_latest}
-use Rattle.apex_world.proofs.KeptLemmas.{unfinished_as}
+use Rattle.apex_world.proofs.AlikeAfter.{IsLike}
 use Rattle.apex_world.proofs.MovedRows.{put_self, put_other}
 use Rattle.apex_world.proofs.OpenedSessions.{one_session}
 use Rattle.apex_world.proofs.SessionMaps.{put_for, same_put, with_as_map}
 use Rattle.apex_world.proofs.SuccessAlike.{succeeding_like, succeeding_state, outdated}
-use Rattle.apex_world.proofs.OutdatedRollbacks.{sharing}
-use Rattle.apex_world.proofs.TurnedRows.{by_answer, held_same, before_same}
-use Rattle.apex_world.proofs.WorldRows.{same_name}
-
--- of parts with different names, the one of a name is found by it
-part_found : (ps : List Part) (p : Part) → EachPair (λ (p q : Part). p.name ≢ q.name) ps → In p ps
-    → find (λ q. bytes_eq q.name p.name) ps ≡ Some p
-part_found [] p d h = absurd h
-part_found (q ∷ ps) p d (inl e) =
-    ap (λ b. cond b (Some q) (find (λ q. bytes_eq q.name p.name) ps))
-    (ap (λ (x : Part). bytes_eq x.name p.name) e ∙ eq_name p.name)
-    ∙ ap (λ (x : Part). Some x) e
-part_found (q ∷ ps) p d (inr h) =
-    ap (λ b. cond b (Some q) (find (λ q. bytes_eq q.name p.name) ps))
-    (false_from_ne_true (bytes_eq q.name p.name)
-    (λ e. absurd (each_in (λ (x : Part). q.name ≢ x.name) ps d.0 p h (same_name q.name p.name e))))
-    ∙ part_found ps p d.1 h
+use Rattle.apex_world.proofs.TurnedLists.{before_same}
 
 longer_same : (x : Record) (o : Option RollbackState) → x.rollback ≡ o → is_available o ≡ false
     → record x { rollback = no_longer o } ≡ x
@@ -152,95 +128,3 @@ module _ (w : World) (law : Lawful w) (clock : ℕ) (r : Record) (h : In r w.ses
         | inl (same, is) ↦ absurd (none (ap (names name) (sym same) ∙ n))
         | inr (d, is) ↦ inl (ap is_success (other_state q is))
       ])
-
-  -- What is kept
-
-  lower : (s : Record) (name : List ℕ) → In s ss → names name r ≡ true → names name s ≡ true
-      → is_standing s.state ≡ true → s.activation ≤ r.activation
-  lower s name i n m stands =
-      elim (cases_eq r.id.0 s.id.0) [
-        | inl e ↦
-            let same = ap (λ (q : Record). q.activation) (one_session ss r s law.ids.ascend h i e) in
-            omega (arith, same)
-        | inr d ↦
-            let l = (law.activations.peers r s name h i d n m).above (ap is_undoable active) stands in
-            omega (arith, l)
-      ]
-
-  -- its own targets are held
-  own_held : (p : Part) → In p r.parts → held ss p.name ≡ p.target
-  own_held p i =
-      same_latest ss (ordered w law) (λ s. is_standing s.state) p.name r p (record {
-        among = h;
-        counts = ap is_standing active;
-        part = part_found r.parts p (law.parts r h).names i;
-        most = λ s j c n. lower s p.name j (names_own r p i) n c;
-      }) (λ s e. e)
-
-  -- what the names of a session held before it
-  abbrev pub befores : Record → List Target
-  befores x = map (λ (p : Part). before w.sessions x p.name) x.parts
-
-  -- where a target went that was kept: it was one to go back to, or it is kept
-  pub data Went (y : Target) : Type 0 where
-    Back : In y (befores r) → Went y
-    Outdated : (x : Record) → In x w.sessions → outdates r x ≡ true → In y (befores x) → Went y
-    Stays : In y (kept after) → Went y
-
-  backs : (x : Record) (p : Part) (y : Target) → In x ss → In p x.parts → x.id.0 ≢ r.id.0 → g x ≡ outdated_by r x
-      → (is_undoable x.state || is_available x.rollback) ≡ true → y ≡ before ss x p.name → Went y
-  backs x p y i j d is b e =
-      let there = in_map g x ss i in
-      let part : In p (g x).parts = subst (In p) (sym (like x i).parts) j in
-      let n = names_own x p j in
-      elim (or_cases (is_undoable x.state) (is_available x.rollback) b) [
-        | inl u ↦ Stays (keeps after (g x) p y there part
-            (Backs (or_left (is_undoable (g x).state) (is_available (g x).rollback)
-            (ap is_undoable (other_state x is) ∙ u))
-            (e ∙ sym (before_is x p.name i (λ m. none_beside x p.name i d n m (unfinished_as x.state u))))))
-        | inr a ↦ by_answer (shares x r)
-            (λ s. Outdated x i (and_from (shares x r) (is_available x.rollback) s a)
-            (subst (λ (y : Target). In y (befores x)) (sym e)
-            (in_map (λ (p : Part). before w.sessions x p.name) p x.parts j)))
-            (λ s.
-            let same : g x ≡ x = is ∙ not_outdated r x (ap (λ b. b && is_available x.rollback) s) in
-            Stays (keeps after (g x) p y there part
-            (Backs (ap (λ (q : Record). is_undoable q.state || is_available q.rollback) same ∙ b)
-            (e ∙ sym (before_is x p.name i (λ m. false≢true (sym s ∙ sharing x r p.name n m)))))))
-      ]
-
-  went : (y : Target) → In y (kept ss) → Went y
-  went y k =
-      let (x, p, i, j, way) = kept_back ss y k in
-      let there = in_map g x ss i in
-      let part : In p (g x).parts = subst (In p) (sym (like x i).parts) j in
-      elim way [
-        | Holds s e ↦ Stays (keeps after (g x) p y there part
-            (Holds (standing x i ∙ s) (e ∙ sym (held_same ss g like p.name standing))))
-        | Own u e ↦ elim (either x i) [
-          | inl (same, is) ↦
-              let mine = own_held p (subst (λ (q : Record). In p q.parts) same j) in
-              Stays (keeps after (g x) p y there part
-              (Holds (ap is_standing (now_is x is)) (e ∙ sym (held_same ss g like p.name standing ∙ mine))))
-          | inr (d, is) ↦ Stays (keeps after (g x) p y there part (Own (ap is_unfinished (other_state x is) ∙ u) e))
-        ]
-        | Backs b e ↦ elim (either x i) [
-          | inl (same, is) ↦ Back (subst (λ (y : Target). In y (befores r)) (sym (e
-              ∙ ap (λ (q : Record). before ss q p.name) same))
-              (in_map (λ (p : Part). before w.sessions r p.name) p r.parts (subst (λ (q : Record). In p q.parts) same j)))
-          | inr (d, is) ↦ backs x p y i j d is b e
-        ]
-      ]
-
-  -- a file that was kept is kept, or given up
-  pub still_target : (session : SessionId) (part : ℕ) → is_target (kept ss) session part ≡ true
-      → (gives_up_file ss r session part ≡ true) ⊎ (is_target (kept after) session part ≡ true)
-  still_target session part e =
-      let (version, k) = target_in (kept ss) session part e in
-      let test : Record → Bool = λ s. outdates r s && goes_back_to ss s session part in
-      elim (went (targets.Module session part version) k) [
-        | Back i ↦ inl (or_left (goes_back_to ss r session part) _ (in_target (befores r) session part version i))
-        | Outdated x i o j ↦ inl (or_right (goes_back_to ss r session part) _ (in_any test x ss i
-            (and_from (outdates r x) (goes_back_to ss x session part) o (in_target (befores x) session part version j))))
-        | Stays i ↦ inr (in_target (kept after) session part version i)
-      ]

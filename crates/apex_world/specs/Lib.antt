@@ -11,6 +11,7 @@ pub mod Fold
 pub mod Follows
 pub mod Forms
 pub mod Invariance
+pub mod KeptByName
 pub mod Lawful
 pub mod Likeness
 pub mod Limits

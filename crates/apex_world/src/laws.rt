@@ -22,6 +22,7 @@ mod data_origins;
 mod decided;
 mod invariance_of_boots;
 mod invariance_of_calls;
+mod kept_by_name;
 mod likeness;
 mod rollback_data;
 mod rows_after;
@@ -34,6 +35,7 @@ pub use data_origins::origins_tell_sources;
 pub use decided::lawful_worlds_are_decided;
 pub use invariance_of_boots::boots_lead_to_running;
 pub use invariance_of_calls::calls_keep_running;
+pub use kept_by_name::modules_are_kept_by_name;
 pub use likeness::{
     boots_tell_no_alike_worlds_apart, calls_tell_no_alike_worlds_apart,
     worlds_of_the_same_parts_stay_so,
