@@ -1,0 +1,5 @@
+mod Filed
+mod Fronts
+mod Maps
+mod Placements
+mod Sums
