@@ -1,7 +1,9 @@
 //! Reading a module.
-ghost use Rattle.std.specs.Prelude.{◌≡◌, IfOk, option_map, List, ℕ};
-ghost use Rattle.apex_base.specs.Modules.{IsModule};
+ghost use Rattle.std.specs.Prelude.{◌≡◌, IfOk, IsTrue, None, OnOk, option_map};
+ghost use Rattle.std.specs.FinMap as fin;
+ghost use Rattle.apex_base.specs.Modules.{IsModule, put_fault};
 ghost use Rattle.apex_base.specs.RowSums.{module_at};
+ghost use Rattle.apex_base.specs.Text.{is_path};
 ghost use Rattle.package_store.specs.Changes.{rows_in};
 ghost use Rattle.package_store.specs.Placed.{path_in};
 
@@ -22,16 +24,7 @@ pub fn module_of(
     let mut files = Module::new(alloc);
     for (key, content) in rows {
         if let Some(path) = path_in(session, part, key) {
-            let Some(path) = FilePath::read(path) else {
-                unreachable!()
-            };
-            let content = Vec::from_slice(alloc, content.as_slice())?;
-            match files.put(path, content) {
-                Ok(()) => {}
-                Err(PutWhy::NoMemory) => return Err(AllocError),
-                Err(PutWhy::Files) => unreachable!(),
-                Err(PutWhy::Large { .. }) => unreachable!(),
-            }
+            add_file(alloc, &mut files, path, content.as_slice())?;
         }
     }
     Ok(files)
@@ -48,5 +41,28 @@ fn path_in(session: SessionId, part: u32, key: &[u8]) -> Option<&[u8]>
         Some(path)
     } else {
         None
+    }
+}
+
+/// Puts a file that can be put.
+fn add_file(
+    alloc: Global,
+    files: &mut Module,
+    path: &[u8],
+    content: &[u8],
+) -> Result<(), AllocError>
+    requires named { IsTrue (is_path path.now) }
+    requires fits { put_fault files.old path.now content.now ≡ None }
+    ensures { OnOk result (files.new ≡ fin.insert files.old path.now content.now) }
+{
+    let Some(path) = FilePath::read(path) else {
+        unreachable!()
+    };
+    let content = Vec::from_slice(alloc, content)?;
+    match files.put(path, content) {
+        Ok(()) => Ok(()),
+        Err(PutWhy::NoMemory) => Err(AllocError),
+        Err(PutWhy::Files) => unreachable!(),
+        Err(PutWhy::Large { .. }) => unreachable!(),
     }
 }
