@@ -1,5 +1,6 @@
 mod Filed
 mod Fronts
 mod Maps
+mod Noted
 mod Placements
 mod Sums

@@ -1,2 +1,4 @@
 pub mod Changes
 pub mod Placed
+pub mod Settled
+pub mod Spelled

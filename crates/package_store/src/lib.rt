@@ -1,6 +1,7 @@
 //! The rows of modules and of names: what a call or a boot writes of them, and what is read from them.
 #![tactic(auto)]
 
+mod changes;
 mod key;
 mod placing;
 mod reading;
