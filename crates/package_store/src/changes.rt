@@ -3,8 +3,10 @@ ghost use Rattle.std.specs.Prelude.{◌≡◌, IfOk, OnOk, option_map};
 ghost use Rattle.std.specs.Cmp.Lexicographic.{slice_cmp};
 ghost use Rattle.std.specs.FinMap as fin;
 ghost use Rattle.std.specs.List.Sorted.{IsStrictlySortedBy};
+ghost use Rattle.std.specs.Option.{is_some};
 ghost use Rattle.std.specs.Ordering.{nat_cmp};
 ghost use Rattle.row_codec.specs.Batch.{keys_of};
+ghost use Rattle.package_store.specs.Named.{is_wanted};
 ghost use Rattle.package_store.specs.Spelled.{listed};
 
 use apex_base::{Bytes, Listed};
@@ -52,6 +54,24 @@ impl Changes {
             Some(Some(bytes)) => Some(Some(bytes.as_slice())),
             Some(None) => Some(None),
             None => None,
+        }
+    }
+
+    /// Whether anything is noted of the key.
+    pub(crate) fn has(&self, key: &[u8]) -> bool
+        ensures { result ≡ is_some (fin.get self.now key.now) }
+    {
+        self.get(key).is_some()
+    }
+
+    /// Whether this value is noted.
+    pub(crate) fn is_wanted(&self, key: &[u8], value: &[u8]) -> bool
+        ensures { result ≡ is_wanted (fin.get self.now key.now) value.now }
+    {
+        match self.get(key) {
+            Some(Some(wanted)) => wanted == value,
+            Some(None) => false,
+            None => false,
         }
     }
 

@@ -2,11 +2,15 @@
 #![tactic(auto)]
 
 mod changes;
+mod held;
 mod key;
+mod naming;
 mod placing;
 mod reading;
+mod settling;
 mod weight;
 
 pub use placing::put;
 pub use reading::module_of;
+pub use settling::settle;
 pub use weight::kept_weight;
