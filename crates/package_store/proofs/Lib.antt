@@ -1,6 +1,9 @@
 mod Filed
 mod Fronts
 mod Maps
+mod NameNotes
 mod Noted
+mod Parts
 mod Placements
+mod RowNotes
 mod Sums
