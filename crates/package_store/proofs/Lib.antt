@@ -6,4 +6,5 @@ mod Noted
 mod Parts
 mod Placements
 mod RowNotes
+mod RowSteps
 mod Sums

@@ -78,7 +78,7 @@ same_if None (Some b) e = absurd (cc)
 same_if (Some a) None e = absurd (cc)
 same_if (Some a) (Some b) e = ap (λ (x : List ℕ). Some x) ((bytes_eq-Decides a b).0 e)
 
-same_itself : (a : Option (List ℕ)) → is_same a a ≡ true
+pub same_itself : (a : Option (List ℕ)) → is_same a a ≡ true
 same_itself None = refl
 same_itself (Some a) = (bytes_eq-Decides a a).1 refl
 

@@ -1,6 +1,6 @@
 -- What is noted, key by key. Callers want `put_note`, `removed_note`, `left_note`, `gone`, `stays` and `on_ok`.
 use Rattle.std.proofs.Common.{◌≡◌, ℕ, Bool, true, false, cond, ◌≤◌, List, [], ◌∷◌, length, suc, ◌-◌, take, drop, get_or, arith, Option, Some, None, ap, sym, ◌∙◌, refl}
-use Rattle.std.specs.Prelude.{OnOk, Result, Ok, Err}
+use Rattle.std.specs.Prelude.{IfOk, OnOk, Result, Ok, Err}
 use Rattle.std.specs.FinMap as fin
 use Rattle.std.specs.Option.{is_some}
 use Rattle.std.specs.Str.{bytes_eq}
@@ -16,6 +16,10 @@ use Rattle.package_store.proofs.Maps.{at_insert, at_remove, turned}
 pub on_ok : {X Y P Q : Type 0} (r : Result X Y) → OnOk r P → (P → Q) → OnOk r Q
 on_ok (Ok x) p f = f p
 on_ok (Err e) p f = tt
+
+pub if_ok : {X Y : Type 0} {P Q : X → Type 0} (r : Result X Y) → IfOk r P → ((x : X) → P x → Q x) → IfOk r Q
+if_ok (Ok x) p f = f x p
+if_ok (Err e) p f = tt
 
 pub put_note : (m : ChangeMap) (key : List ℕ) (value : Option (List ℕ)) (q : List ℕ)
     → fin.get (fin.insert m key value) q ≡ cond (bytes_eq q key) (Some value) (fin.get m q)
