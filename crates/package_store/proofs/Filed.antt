@@ -1,10 +1,10 @@
 -- The files of a module among rows, read one row after another. Callers want `all_filed`, `starts`, `passes`, `takes`,
 -- `is_named`, `has_room` and `ends`.
-use Rattle.std.proofs.Common.{◌≡◌, ℕ, ◌+◌, ◌≤◌, ◌<◌, Bool, true, false, cond, ◌&&◌, not, List, [], ◌∷◌, length, map, Option, Some, None, sym, ap, subst, ◌∙◌, refl, arith}
-use Rattle.std.specs.Prelude.{IfSome, IsTrue, nat_le, nat_lt}
+use Rattle.std.proofs.Common.{◌≡◌, ℕ, ◌+◌, ◌≤◌, ◌<◌, Bool, true, false, cond, ◌&&◌, not, List, [], ◌∷◌, length, Option, Some, None, sym, ap, ◌∙◌, refl, arith}
+use Rattle.std.specs.Prelude.{IsTrue, nat_le, nat_lt}
 use Rattle.std.specs.Cmp.Lexicographic.{slice_cmp, nat_list_cmp_total}
 use Rattle.std.specs.FinMap as fin
-use Rattle.std.specs.FinMap.{get-insert, get-empty, get-from_entries, len-insert, len-empty}
+use Rattle.std.specs.FinMap.{get-empty, get-from_entries, len-insert, len-empty}
 use Rattle.std.specs.List.Sorted.{IsStrictlySortedBy}
 use Rattle.std.specs.Map.{keys_of}
 use Rattle.std.specs.Option.{is_some}
@@ -14,7 +14,7 @@ use Rattle.std.specs.declared.vec.Vec.{Vec}
 use Rattle.std.proofs.lemmas.Bool.Decides.{nat_tests}
 use Rattle.apex_base.specs.declared.module.PutWhy.TheVariants.{Files, Large}
 use Rattle.apex_base.specs.declared.numbers.SessionId.{SessionId}
-use Rattle.apex_base.specs.Keys.{RowMap, file_front, ends_of}
+use Rattle.apex_base.specs.Keys.{file_front, ends_of}
 use Rattle.apex_base.specs.Modules.{FileMap, IsModule, put_fault}
 use Rattle.apex_base.specs.RowSums.{module_at}
 use Rattle.apex_base.specs.Text.{is_path}
@@ -106,8 +106,14 @@ module _ (session : SessionId) (part : ℕ) where
           joined = λ path. ap (λ (o : Option (List ℕ)). or_before (fin.get (files_in (shown es)) path) o)
               (ap (λ (m : FileMap). fin.get m path) none ∙ get-empty (slice_cmp nat_cmp) path)
               ∙ or_none (fin.get (files_in (shown es)) path) ∙ ap (λ (m : FileMap). fin.get m path) filed;
-          few = omega (arith, ap (λ (m : FileMap). fin.len m) none, len-empty (slice_cmp nat_cmp) (List ℕ), ap (λ (m
-              : FileMap). fin.len m) filed, h.few);
+          few = omega (
+            arith,
+            ap (λ (m : FileMap). fin.len m) none,
+            len-empty (slice_cmp nat_cmp) (List ℕ),
+            ap (λ (m
+                : FileMap). fin.len m) filed,
+            h.few,
+          );
           up = ascending es up;
         }
 

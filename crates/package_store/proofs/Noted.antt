@@ -16,12 +16,11 @@ use Rattle.std.specs.declared.cmp.Ordering.TheVariants.{Less, Equal, Greater}
 use Rattle.apex_base.specs.Keys.{RowMap}
 use Rattle.apex_base.specs.Members.{In}
 use Rattle.apex_base.proofs.RowMaps.{same_bytes, entry_get, sorted_entries}
-use Rattle.row_codec.specs.declared.batch.Row.{Row}
 use Rattle.row_codec.specs.Batch as batch
 use Rattle.package_store.specs.Changes.{changed, changed_at}
 use Rattle.package_store.specs.Settled.{IsChange}
 use Rattle.package_store.specs.Spelled.{ChangeMap, change_of, listed, is_same, change_to}
-use Rattle.package_store.proofs.Maps.{same_key, at_change, not_below}
+use Rattle.package_store.proofs.Maps.{same_key, at_change}
 
 abbrev Notes : Type 0
 Notes = List (List ℕ × Option (List ℕ))
@@ -111,7 +110,7 @@ module _ (rows : RowMap) (changes : ChangeMap) (after : List ℕ → Option (Lis
   change_by [] there = tt
   change_by (e ∷ es) there = (
     differs_if (is_same (fin.get rows e.0) (after e.0)) (fin.get rows e.0) (after e.0) e.1 refl
-    (sym (noted e.0) ∙ there e (inl refl)),
+        (sym (noted e.0) ∙ there e (inl refl)),
     change_by es (λ x h. there x (inr h)),
   )
 

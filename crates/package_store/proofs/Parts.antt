@@ -1,6 +1,6 @@
 -- Targets whose parts have numbers of one byte: where those of all sessions do, so do those that names hold. Callers
 -- want `held_part` and `before_part`.
-use Rattle.std.proofs.Common.{◌≡◌, ℕ, Bool, true, false, cond, ◌&&◌, List, [], ◌∷◌, fold, Option, Some, None, ap, sym, ◌∙◌, refl}
+use Rattle.std.proofs.Common.{ℕ, Bool, true, false, cond, ◌&&◌, List, [], ◌∷◌, fold, Option, Some, None}
 use Rattle.std.specs.Prelude.{find, nat_lt}
 use Rattle.std.specs.List.{AllByRecursion}
 use Rattle.std.specs.Option.{option_map}

@@ -1,7 +1,7 @@
 -- What the rows of a module make of a map of rows, and that they can stand in a batch. Callers want `placed`,
 -- `ascends` and `fits`.
-use Rattle.std.proofs.Common.{◌≡◌, ℕ, ◌+◌, ◌≤◌, ◌<◌, ◌^◌, Bool, true, false, cond, List, [], ◌∷◌, length, map, Option, Some, None, sym, ap, subst, ◌∙◌, refl, arith, inl, inr}
-use Rattle.std.specs.Prelude.{IfSome, IsTrue, nat_le}
+use Rattle.std.proofs.Common.{◌≡◌, ℕ, ◌≤◌, Bool, true, false, cond, List, [], ◌∷◌, length, map, Option, Some, None, sym, ap, ◌∙◌, refl, arith, inl, inr}
+use Rattle.std.specs.Prelude.{IsTrue, nat_le}
 use Rattle.std.specs.Cmp.Lexicographic.{slice_cmp}
 use Rattle.std.specs.FinMap as fin
 use Rattle.std.specs.FinMap.{get-entries}
@@ -18,8 +18,7 @@ use Rattle.apex_base.specs.Members.{In}
 use Rattle.apex_base.specs.Modules.{FileMap, IsModule}
 use Rattle.apex_base.specs.Text.{is_path}
 use Rattle.apex_base.proofs.RowMaps.{same_bytes, entry_get}
-use Rattle.row_codec.specs.declared.batch.Row.{Row}
-use Rattle.row_codec.specs.Batch.{IsRow} 
+use Rattle.row_codec.specs.Batch.{IsRow}
 use Rattle.row_codec.specs.Batch as batch
 use Rattle.package_store.specs.Changes.{changed}
 use Rattle.package_store.specs.Placed.{file_change, file_changes, path_in, file_at, or_before, placed_value}
@@ -108,8 +107,7 @@ module _ (session : SessionId) (part : ℕ) where
   fits_by files (e ∷ es) is at =
       let there : fin.get files e.0 ≡ Some e.1 = at e (inl refl) in
       let short : length e.0 ≤ 128 = short_path e.0 (rw there at (is.paths e.0)) in
-      let few : length e.1 ≤ 1048576 = rw there at (is.short e.0) in
-      (
+      let few : length e.1 ≤ 1048576 = rw there at (is.short e.0) in (
         record { not_empty = omega arith; short = omega (arith, short); value = omega (arith, few) },
         fits_by files es is (λ x h. at x (inr h)),
       )

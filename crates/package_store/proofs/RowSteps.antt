@@ -1,5 +1,5 @@
 -- Rows settled one after another. Callers want `starts`, `row_settled` and `ends`.
-use Rattle.std.proofs.Common.{◌≡◌, ℕ, Bool, true, false, cond, ◌&&◌, ◌||◌, not, List, [], ◌∷◌, Option, Some, None, ap, subst, sym, ◌∙◌, refl}
+use Rattle.std.proofs.Common.{◌≡◌, ℕ, Bool, true, false, cond, ◌&&◌, ◌||◌, not, List, [], ◌∷◌, Option, Some, None, ap, sym, ◌∙◌, refl}
 use Rattle.std.specs.Prelude.{◌==◌}
 use Rattle.std.specs.Cmp.Lexicographic.{slice_cmp, nat_list_cmp_total}
 use Rattle.std.specs.FinMap as fin
@@ -14,7 +14,6 @@ use Rattle.std.specs.declared.vec.Vec.{Vec}
 use Rattle.std.proofs.lemmas.Map.Text.{is_eq-slice_cmp}
 use Rattle.std.proofs.lemmas.Slice.Eq.{bytes_eq-Decides}
 use Rattle.apex_base.specs.declared.records.Record.{Record}
-use Rattle.apex_base.specs.declared.records.Target.{Target}
 use Rattle.apex_base.specs.Held.{kept}
 use Rattle.apex_base.specs.Keys.{RowMap}
 use Rattle.apex_base.proofs.RowMaps.{eq_bytes}
@@ -22,7 +21,7 @@ use Rattle.package_store.specs.Changes.{shown, rows_in}
 use Rattle.package_store.specs.Named.{Note, resettled, note_row}
 use Rattle.package_store.specs.Settled.{active_value, backup_value, settled, settled_value, file_stays}
 use Rattle.package_store.specs.Spelled.{ChangeMap, change_to}
-use Rattle.package_store.proofs.Maps.{same_key, not_below, ascending}
+use Rattle.package_store.proofs.Maps.{not_below, ascending}
 use Rattle.package_store.proofs.Noted.{same_itself}
 use Rattle.package_store.proofs.RowNotes.{bytes_turned}
 

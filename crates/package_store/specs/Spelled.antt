@@ -1,5 +1,5 @@
 -- Changes of rows by their keys, each once.
-use Rattle.std.specs.Prelude.{ℕ, List, map, Option, Some, None, ◌∷◌, if◌then◌else◌, Bool, true, false}
+use Rattle.std.specs.Prelude.{ℕ, List, map, Option, Some, None, if◌then◌else◌, Bool, true, false}
 use Rattle.std.specs.Str.{bytes_eq}
 use Rattle.std.specs.FinMap as fin
 use Rattle.std.specs.declared.vec.Vec.{Vec}

@@ -4,7 +4,6 @@ use Rattle.std.specs.FinMap as fin
 use Rattle.std.specs.FinMap.{get-empty}
 use Rattle.std.specs.Ordering.{nat_cmp}
 use Rattle.package_store.specs.Spelled.{ChangeMap}
-use Rattle.package_store.proofs.NameNotes.{all_noted}
 use Rattle.package_store.proofs.naming.name_changes.Goals as goal
 
 pub loop-r-init : goal.loop-r-init

@@ -1,5 +1,4 @@
-use Rattle.std.proofs.Common.{◌≡◌, ◌∷◌, ℕ, List, None, Some, rules, ap, sym, subst, ◌∙◌, refl}
-use Rattle.apex_base.specs.declared.module.PutWhy.TheVariants.{Files, Large, NoMemory}
+use Rattle.std.proofs.Common.{◌≡◌, ◌∷◌, ℕ, List, None, Some, ap, sym, subst, ◌∙◌, refl}
 use Rattle.apex_base.specs.RowSums.{module_at}
 use Rattle.package_store.specs.Changes.{rows_in, shown}
 use Rattle.package_store.specs.Placed.{path_in}

@@ -7,7 +7,7 @@ use Rattle.row_codec.specs.declared.batch.Row.{Row}
 use Rattle.package_store.specs.Changes.{rows_in, shown, changed}
 use Rattle.package_store.specs.Named.{note_row}
 use Rattle.package_store.specs.Settled.{settled_value, IsChange}
-use Rattle.package_store.specs.Spelled.{listed, change_to}
+use Rattle.package_store.specs.Spelled.{change_to}
 use Rattle.package_store.proofs.NameNotes.{all_noted}
 use Rattle.package_store.proofs.Noted.{all_made, all_change}
 use Rattle.package_store.proofs.RowNotes.{if_ok}

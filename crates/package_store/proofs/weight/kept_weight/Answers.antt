@@ -1,9 +1,8 @@
-use Rattle.std.proofs.Common.{rules, arith, ap}
+use Rattle.std.proofs.Common.{arith, ap}
 use Rattle.std.specs.List.{sum_by}
 use Rattle.apex_base.specs.RowSums.{file_row_weight}
 use Rattle.package_store.specs.Changes.{shown}
 use Rattle.package_store.proofs.Sums.{all_weights}
-use Rattle.package_store.proofs.Fronts.{key_of_path}
 use Rattle.package_store.proofs.weight.kept_weight.Goals as goal
 
 pub loop-key-init : goal.loop-key-init

@@ -1,4 +1,4 @@
-use Rattle.std.proofs.Common.{Some, rules, ap, sym, ◌∙◌}
+use Rattle.std.proofs.Common.{rules, ap, sym, ◌∙◌}
 use Rattle.std.specs.FinMap as fin
 use Rattle.package_store.specs.Spelled.{ChangeMap}
 use Rattle.package_store.proofs.Maps.{get_seen}

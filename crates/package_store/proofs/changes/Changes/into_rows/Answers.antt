@@ -6,7 +6,7 @@ use Rattle.std.specs.Ordering.{nat_cmp}
 use Rattle.row_codec.specs.declared.batch.Row.{Row}
 use Rattle.row_codec.specs.Batch as batch
 use Rattle.package_store.specs.Spelled.{ChangeMap, change_of, listed}
-use Rattle.package_store.proofs.Maps.{ascending, in_order, from_seen}
+use Rattle.package_store.proofs.Maps.{ascending, in_order}
 use Rattle.package_store.proofs.Noted.{keys_ascend}
 use Rattle.package_store.proofs.changes.Changes.into_rows.Goals as goal
 
