@@ -18,6 +18,7 @@ use Rattle.apex_base.specs.Keys.{file_front, ends_of}
 use Rattle.apex_base.specs.Modules.{FileMap, IsModule, put_fault}
 use Rattle.apex_base.specs.RowSums.{module_at}
 use Rattle.apex_base.specs.Text.{is_path}
+use Rattle.apex_base.proofs.Maps.{empty_module}
 use Rattle.apex_base.proofs.RowMaps.{same_bytes, eq_bytes, same_names, in_ends, tabulated}
 use Rattle.package_store.specs.Changes.{shown, rows_in}
 use Rattle.package_store.specs.Placed.{path_in, or_before}
@@ -88,6 +89,11 @@ module _ (session : SessionId) (part : ℕ) where
       ∙ sym (get-from_entries nat_list_cmp_total (shown es) (file_front session part path))
       ∙ sym (tabulated (λ path. fin.get (rows_in es) (file_front session part path)) (ends_of 6 (rows_in es)) path
       (λ v e. in_ends 6 (rows_in es) (file_front session part path) v e)))
+
+  -- no rows are a module without files
+  pub no_module : (es : List (Vec ℕ Global × List ℕ)) → es ≡ [] → IsModule (module_at (rows_in es) session part)
+  no_module es none = subst (λ (es : List (Vec ℕ Global × List ℕ)). IsModule (module_at (rows_in es) session part))
+      (sym none) (subst IsModule (all_filed []) empty_module)
 
   -- these files, and those of the rows that are left, are the module
   pub record Filed (whole files : FileMap) (rest : Rows) : Type 0 where

@@ -8,6 +8,8 @@ mod naming;
 mod placing;
 mod reading;
 mod settling;
+#[cfg(test)]
+mod tests;
 mod weight;
 
 pub use placing::put;
