@@ -1,6 +1,7 @@
 -- The files of a module among rows, read one row after another. Callers want `all_filed`, `starts`, `passes`, `takes`,
 -- `is_named`, `has_room` and `ends`.
-use Rattle.std.proofs.Common.{◌≡◌, ℕ, ◌+◌, ◌≤◌, ◌<◌, Bool, true, false, cond, ◌&&◌, not, List, [], ◌∷◌, length, Option, Some, None, sym, ap, ◌∙◌, refl, arith}
+use Rattle.std.proofs.Common.{subst, ◌≡◌, ℕ, ◌+◌, ◌≤◌, ◌<◌, Bool, true, false, cond, ◌&&◌, not, List, [], ◌∷◌, length}
+use Rattle.std.proofs.Common.{Option, Some, None, sym, ap, ◌∙◌, refl, arith}
 use Rattle.std.specs.Prelude.{IsTrue, nat_le, nat_lt}
 use Rattle.std.specs.Cmp.Lexicographic.{slice_cmp, nat_list_cmp_total}
 use Rattle.std.specs.FinMap as fin
@@ -131,7 +132,8 @@ module _ (session : SessionId) (part : ℕ) where
       -- a row of another module leaves the files as they are
       pub passes : path_in session part e.0 ≡ None → Filed whole files es
       passes none =
-          let same : files_in (e ∷ es) ≡ files_in es = ap (λ (o : Option (List ℕ)). with_file o e.1 (files_in es)) none in
+          let same : files_in (e ∷ es) ≡ files_in es =
+          ap (λ (o : Option (List ℕ)). with_file o e.1 (files_in es)) none in
           record {
             joined = λ path. ap (λ (m : FileMap). or_before (fin.get m path) (fin.get files path)) (sym same)
                 ∙ f.joined path;
@@ -205,5 +207,6 @@ module _ (session : SessionId) (part : ℕ) where
     -- where no row is left the files are the module
     pub ends : Filed whole files [] → files ≡ whole
     ends f = same_names files whole
-        (λ path. sym (ap (λ (o : Option (List ℕ)). or_before o (fin.get files path)) (get-empty (slice_cmp nat_cmp) path))
+        (λ path. sym (ap (λ (o : Option (List ℕ)). or_before o (fin.get files path))
+        (get-empty (slice_cmp nat_cmp) path))
         ∙ f.joined path)

@@ -1,5 +1,6 @@
 -- Keys of files: what stands under a front, and how such keys compare.
-use Rattle.std.proofs.Common.{◌≡◌, ℕ, List, [], ◌∷◌, ◌++◌, Bool, true, false, cond, take, drop, Some, None, sym, ap, ◌∙◌, refl}
+use Rattle.std.proofs.Common.{◌≡◌, ℕ, List, [], ◌∷◌, ◌++◌, Bool, true, false, cond, take, drop, Some, None, sym, ap}
+use Rattle.std.proofs.Common.{◌∙◌, refl}
 use Rattle.std.proofs.lemmas.List.{take-append-drop}
 use Rattle.std.proofs.lemmas.Slice.Eq.{bytes_eq-Decides}
 use Rattle.std.specs.Cmp.{tied_itself, nat_cmp_total}
@@ -36,7 +37,8 @@ module _ (session : SessionId) (part : ℕ) where
   path_if : (b : Bool) (key path : List ℕ) → bytes_eq (take 6 key) (file_front session part []) ≡ b
       → cond b (Some (drop 6 key)) None ≡ Some path → key ≡ file_front session part path
   path_if true key path is e =
-      let begins : take 6 key ≡ file_front session part [] = (bytes_eq-Decides (take 6 key) (file_front session part [])).0 is in
+      let begins : take 6 key ≡ file_front session part [] =
+      (bytes_eq-Decides (take 6 key) (file_front session part [])).0 is in
       let ends : drop 6 key ≡ path = some_is (drop 6 key) path e in
       sym (take-append-drop 6 key) ∙ ap (λ (xs : List ℕ). xs ++ drop 6 key) begins
       ∙ ap (λ (xs : List ℕ). file_front session part [] ++ xs) ends

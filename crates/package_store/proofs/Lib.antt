@@ -7,4 +7,5 @@ mod Parts
 mod Placements
 mod RowNotes
 mod RowSteps
+mod SettledKeys
 mod Sums

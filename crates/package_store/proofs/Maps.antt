@@ -1,5 +1,6 @@
 -- Rows as a finite map, and what a change makes of a key.
-use Rattle.std.proofs.Common.{T, ◌≡◌, ℕ, Bool, List, [], ◌∷◌, true, false, cond, Option, Some, None, map, ap, sym, ◌∙◌, refl}
+use Rattle.std.proofs.Common.{T, ◌≡◌, ℕ, Bool, List, [], ◌∷◌, true, false, cond, Option, Some, None, map, ap, sym}
+use Rattle.std.proofs.Common.{◌∙◌, refl}
 use Rattle.std.specs.Prelude.{IsTrue}
 use Rattle.std.specs.Cmp.{eq_by_cmp_equiv}
 use Rattle.std.specs.Cmp.Lexicographic.{slice_cmp, nat_list_cmp_total}

@@ -1,5 +1,6 @@
 -- What all sessions note of a key is what they call for. Callers want `all_noted`.
-use Rattle.std.proofs.Common.{◌≡◌, ℕ, Bool, true, false, cond, ◌&&◌, ◌||◌, List, [], ◌∷◌, fold, Option, Some, None, ap, subst, sym, ◌∙◌, refl}
+use Rattle.std.proofs.Common.{◌≡◌, ℕ, Bool, true, false, cond, ◌&&◌, ◌||◌, List, [], ◌∷◌, fold, Option, Some, None}
+use Rattle.std.proofs.Common.{ap, subst, sym, ◌∙◌, refl}
 use Rattle.std.specs.Prelude.{find, ◌==◌}
 use Rattle.std.specs.List.{list_any}
 use Rattle.std.specs.Option.{option_map}
@@ -105,7 +106,8 @@ module _ (records : List Record) where
     first_again (Some z) x y = refl
 
     backup_join : (u b a : Bool) (n : Note) (x : Option (List ℕ))
-        → cond (u && a) (or_first (cond (u && b) (or_first n (Some x)) n) (Some x)) (cond (u && b) (or_first n (Some x)) n)
+        → cond (u && a) (or_first (cond (u && b) (or_first n (Some x)) n) (Some x))
+        (cond (u && b) (or_first n (Some x)) n)
         ≡ cond (u && (b || a)) (or_first n (Some x)) n
     backup_join false b a n x = refl
     backup_join true true true n x = first_again n x (Some x)
@@ -118,7 +120,8 @@ module _ (records : List Record) where
 
     backup_parts : (r : Record) (ps : List Part) (n : Note)
         → fold (λ n (p : Part). note_name records r p.name (4 ∷ name) n) n ps
-        ≡ cond (is_undoable r.state && list_any (λ (p : Part). bytes_eq p.name name) ps) (or_first n (Some (backup r))) n
+        ≡ cond (is_undoable r.state && list_any (λ (p : Part). bytes_eq p.name name) ps)
+        (or_first n (Some (backup r))) n
     backup_parts r [] n = no_backups (is_undoable r.state) n (backup r)
     backup_parts r (p ∷ ps) n =
         let rest = list_any (λ (p : Part). bytes_eq p.name name) ps in

@@ -1,6 +1,7 @@
 -- What the rows of a module make of a map of rows, and that they can stand in a batch. Callers want `placed`,
 -- `ascends` and `fits`.
-use Rattle.std.proofs.Common.{◌≡◌, ℕ, ◌≤◌, Bool, true, false, cond, List, [], ◌∷◌, length, map, Option, Some, None, sym, ap, ◌∙◌, refl, arith, inl, inr}
+use Rattle.std.proofs.Common.{◌≡◌, ℕ, ◌≤◌, Bool, true, false, cond, List, [], ◌∷◌, length, map, Option, Some, None}
+use Rattle.std.proofs.Common.{sym, ap, ◌∙◌, refl, arith, inl, inr}
 use Rattle.std.specs.Prelude.{IsTrue, nat_le}
 use Rattle.std.specs.Cmp.Lexicographic.{slice_cmp}
 use Rattle.std.specs.FinMap as fin

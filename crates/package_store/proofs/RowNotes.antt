@@ -1,5 +1,6 @@
 -- What is noted, key by key. Callers want `put_note`, `removed_note`, `left_note`, `gone`, `stays` and `on_ok`.
-use Rattle.std.proofs.Common.{◌≡◌, ℕ, Bool, true, false, cond, ◌≤◌, List, [], ◌∷◌, length, suc, ◌-◌, take, drop, get_or, arith, Option, Some, None, ap, sym, ◌∙◌, refl}
+use Rattle.std.proofs.Common.{◌≡◌, ℕ, Bool, true, false, cond, ◌≤◌, List, [], ◌∷◌, length, suc, ◌-◌, take, drop}
+use Rattle.std.proofs.Common.{get_or, arith, Option, Some, None, ap, sym, ◌∙◌, refl}
 use Rattle.std.specs.Prelude.{IfOk, OnOk, Result, Ok, Err}
 use Rattle.std.specs.FinMap as fin
 use Rattle.std.specs.Option.{is_some}
@@ -83,7 +84,8 @@ file_gone kept [] value n long five e = absurd (omega arith)
 file_gone kept (tag ∷ rest) value n long five e =
     let is : tag ≡ 5 = five in
     let count : length (tag ∷ rest) ≡ suc (length rest) = refl in
-    let all : take (length (tag ∷ rest) - 1) rest ≡ rest = take_all (length (tag ∷ rest) - 1) rest (omega (arith, count)) in
+    let all : take (length (tag ∷ rest) - 1) rest ≡ rest =
+    take_all (length (tag ∷ rest) - 1) rest (omega (arith, count)) in
     let gone : file_stays kept rest ≡ false = ap (file_stays kept) (sym all) ∙ e in
     rw (is, gone) refl
 

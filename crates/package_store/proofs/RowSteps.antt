@@ -1,5 +1,6 @@
 -- Rows settled one after another. Callers want `starts`, `row_settled` and `ends`.
-use Rattle.std.proofs.Common.{◌≡◌, ℕ, Bool, true, false, cond, ◌&&◌, ◌||◌, not, List, [], ◌∷◌, Option, Some, None, ap, sym, ◌∙◌, refl}
+use Rattle.std.proofs.Common.{◌≡◌, ℕ, Bool, true, false, cond, ◌&&◌, ◌||◌, not, List, [], ◌∷◌, Option, Some, None, ap}
+use Rattle.std.proofs.Common.{sym, ◌∙◌, refl}
 use Rattle.std.specs.Prelude.{◌==◌}
 use Rattle.std.specs.Cmp.Lexicographic.{slice_cmp, nat_list_cmp_total}
 use Rattle.std.specs.FinMap as fin
@@ -83,7 +84,8 @@ module _ (records : List Record) where
       λ q. get-from_entries nat_list_cmp_total (shown es) q in
       record {
         noted = λ q. noted q ∙ ap (λ (o : Option (List ℕ)). change_to o (settled records q o))
-            (sym (ap (λ (o : Option (List ℕ)). cond (is_some (fin.find (slice_cmp nat_cmp) q (shown es))) None o) (found q)
+            (sym (ap (λ (o : Option (List ℕ)). cond (is_some (fin.find (slice_cmp nat_cmp) q (shown es))) None o)
+            (found q)
             ∙ unseen (fin.find (slice_cmp nat_cmp) q (shown es))));
         there = λ q v e. found q ∙ e;
         up = ascending es up;
@@ -105,7 +107,8 @@ module _ (records : List Record) where
 
     others : (q : List ℕ) → bytes_eq q e.0 ≡ false
         → fin.find (slice_cmp nat_cmp) q (e ∷ rest) ≡ fin.find (slice_cmp nat_cmp) q rest
-    others q ne = ap (λ (b : Bool). cond b (Some e.1) (fin.find (slice_cmp nat_cmp) q rest)) (is_eq-slice_cmp q e.0 ∙ ne)
+    others q ne =
+        ap (λ (b : Bool). cond b (Some e.1) (fin.find (slice_cmp nat_cmp) q rest)) (is_eq-slice_cmp q e.0 ∙ ne)
 
     noted_if : (b : Bool) (q : List ℕ) → bytes_eq q e.0 ≡ b → fin.get changes' q
         ≡ change_to (seen rows rest q) (settled records q (seen rows rest q))
@@ -117,12 +120,14 @@ module _ (records : List Record) where
         ap (λ (o : Option (List ℕ)). cond (is_some o) None (fin.get rows e.0)) last ∙ s.there e.0 e.1 first in
         let old : fin.get changes e.0 ≡ change_to None (settled records e.0 None) =
         s.noted e.0 ∙ ap (λ (o : Option (List ℕ)). change_to o (settled records e.0 o)) before in
-        noted q ∙ ap (λ (b : Bool). cond b (note_row (kept records) e.0 e.1 (fin.get changes e.0)) (fin.get changes q)) eq
+        noted q
+        ∙ ap (λ (b : Bool). cond b (note_row (kept records) e.0 e.1 (fin.get changes e.0)) (fin.get changes q)) eq
         ∙ row_seen records e.0 e.1 (fin.get changes e.0) old
         ∙ ap (λ (o : Option (List ℕ)). change_to o (settled records e.0 o)) (sym after)
         ∙ ap (λ (k : List ℕ). change_to (seen rows rest k) (settled records k (seen rows rest k))) (sym same)
     noted_if false q ne =
-        noted q ∙ ap (λ (b : Bool). cond b (note_row (kept records) e.0 e.1 (fin.get changes e.0)) (fin.get changes q)) ne
+        noted q
+        ∙ ap (λ (b : Bool). cond b (note_row (kept records) e.0 e.1 (fin.get changes e.0)) (fin.get changes q)) ne
         ∙ s.noted q
         ∙ ap (λ (o : Option (List ℕ)). change_to (cond (is_some o) None (fin.get rows q))
         (settled records q (cond (is_some o) None (fin.get rows q)))) (others q ne)

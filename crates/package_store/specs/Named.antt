@@ -1,5 +1,6 @@
 -- How changes are noted: first what sessions call for, then what each row makes of it.
-use Rattle.std.specs.Prelude.{ℕ, ◌&&◌, ◌||◌, ◌==◌, not, List, [], ◌∷◌, fold, Option, Some, None, if◌then◌else◌, Bool, false}
+use Rattle.std.specs.Prelude.{ℕ, ◌&&◌, ◌||◌, ◌==◌, not, List, [], ◌∷◌, fold, Option, Some, None, if◌then◌else◌, Bool}
+use Rattle.std.specs.Prelude.{false}
 use Rattle.std.specs.Str.{bytes_eq}
 use Rattle.apex_base.specs.declared.records.Part.{Part}
 use Rattle.apex_base.specs.declared.records.Record.{Record}
@@ -25,11 +26,14 @@ abbrev pub note_backup : List Record → Record → List ℕ → List ℕ → No
 note_backup records r name key noted =
     if bytes_eq key (4 ∷ name) then or_first noted (Some (Some (target_text (before records r name) []))) else noted
 
+abbrev pub if_standing : List Record → Record → List ℕ → List ℕ → Note → Note
+if_standing records r name key noted = if is_standing r.state then note_active records name key noted else noted
+
 -- what a session notes for one of its names
 abbrev pub note_name : List Record → Record → List ℕ → List ℕ → Note → Note
 note_name records r name key noted =
-    if is_undoable r.state then note_backup records r name key (if is_standing r.state then note_active records name key noted else noted)
-    else (if is_standing r.state then note_active records name key noted else noted)
+    if is_undoable r.state then note_backup records r name key (if_standing records r name key noted)
+    else if_standing records r name key noted
 
 -- what it notes for all of them
 abbrev pub note_names : List Record → Record → List ℕ → Note → Note

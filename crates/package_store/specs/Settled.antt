@@ -1,5 +1,6 @@
 -- What rows come to once they are settled by the records of all sessions: docs/rows.md, tags 3 to 5.
-use Rattle.std.specs.Prelude.{ℕ, ◌≢◌, ◌<◌, ◌&&◌, ◌==◌, Bool, true, List, [], ◌∷◌, find, Option, Some, None, if◌then◌else◌}
+use Rattle.std.specs.Prelude.{ℕ, ◌≢◌, ◌<◌, ◌&&◌, ◌==◌, Bool, true, List, [], ◌∷◌, find, Option, Some, None}
+use Rattle.std.specs.Prelude.{if◌then◌else◌}
 use Rattle.std.specs.Int.{w32, from_be_bytes}
 use Rattle.std.specs.List.{list_any, AllByRecursion}
 use Rattle.std.specs.Option.{option_map}
@@ -8,7 +9,7 @@ use Rattle.apex_base.specs.declared.records.Record.{Record}
 use Rattle.apex_base.specs.declared.records.Target.{Target}
 use Rattle.apex_base.specs.declared.records.Target.TheVariants as targets
 use Rattle.apex_base.specs.Held.{is_undoable, is_standing, held, before, kept, is_target}
-use Rattle.apex_base.specs.Keys.{RowMap}
+use Rattle.apex_base.specs.Keys.{Key, ActiveOf, BackupOf, FileOf, RowMap, file_front, key_text}
 use Rattle.apex_base.specs.Sessions.{names}
 use Rattle.apex_base.specs.Spelling.{target_text}
 use Rattle.row_codec.specs.declared.batch.Row.{Row}
@@ -49,6 +50,14 @@ settled records (tag ∷ rest) value =
 
 abbrev pub settled_value : RowMap → List Record → List ℕ → Option (List ℕ)
 settled_value rows records key = settled records key (fin.get rows key)
+
+-- the same by what a row is of: the law `settled_by_key`
+abbrev pub settled_row : RowMap → List Record → Key → Option (List ℕ)
+settled_row rows records (ActiveOf name) = active_value records name
+settled_row rows records (BackupOf name) = backup_value records name
+settled_row rows records (FileOf session part path) =
+    if is_target (kept records) session part then fin.get rows (file_front session part path) else None
+settled_row rows records key = fin.get rows (key_text key)
 
 -- a change that changes something
 abbrev pub IsChange : RowMap → Row → Type 0

@@ -4,6 +4,7 @@
 mod changes;
 mod held;
 mod key;
+mod laws;
 mod naming;
 mod placing;
 mod reading;
@@ -12,6 +13,7 @@ mod settling;
 mod tests;
 mod weight;
 
+pub use laws::{rows_are_those_shown, settled_by_key};
 pub use placing::put;
 pub use reading::module_of;
 pub use settling::settle;

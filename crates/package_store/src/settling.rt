@@ -30,7 +30,8 @@ pub fn settle(
     requires { HaveParts records.now }
 
     // With them each key has its settled value.
-    ensures after { IfOk result (λ changes. (key : List ℕ) → fin.get (changed (rows_in rows.now.entries) changes.items) key
+    ensures after { IfOk result (λ changes. (key : List ℕ)
+        → fin.get (changed (rows_in rows.now.entries) changes.items) key
         ≡ settled_value (rows_in rows.now.entries) records.now key) }
 
     // They hold exactly what changes, and can stand in a batch.

@@ -60,8 +60,8 @@ loop-key-preserved-in-Continue-1 c =
     c.loop-key.invariant in
     let its : path_in c.args.session c.args.part row.0 ≡ Some c.in-Some-path_in.path.now =
     ap (path_in c.args.session c.args.part) (sym c.deref.ensures.value) ∙ sym c.in-Some-path_in.ensures in
-    takes c.args.session c.args.part whole c.loop-key.files row rest f c.in-Some-path_in.path.now its c.add_file.new.files
-    (rw c.as_slice.ensures at c.in_ok-add_file.ensures)
+    takes c.args.session c.args.part whole c.loop-key.files row rest f c.in-Some-path_in.path.now its
+    c.add_file.new.files (rw c.as_slice.ensures at c.in_ok-add_file.ensures)
 
 pub returns : goal.returns
 returns c =

@@ -13,7 +13,8 @@ returns-then-not-file_stays c =
     let key = c.args.key.now in
     let long : 1 ≤ length key = c.in-len1-up.len_at_least in
     let five : get_or key 0 0 ≡ 5 = c.if-tag-eq-FILE.true in
-    let gone : file_stays c.args.kept.now (take (length key - 1) (drop 1 key)) ≡ false = sym c.if-not-file_stays.ensures in
+    let gone : file_stays c.args.kept.now (take (length key - 1) (drop 1 key)) ≡ false =
+    sym c.if-not-file_stays.ensures in
     let row : note_row c.args.kept.now key c.args.value.now (fin.get old key) ≡ Some None =
     file_gone c.args.kept.now key c.args.value.now (fin.get old key) long five gone in
     on_ok c.put.result c.put.ensures
