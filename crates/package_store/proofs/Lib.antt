@@ -1,0 +1,11 @@
+mod Filed
+mod Fronts
+mod Maps
+mod NameNotes
+mod Noted
+mod Parts
+mod Placements
+mod RowNotes
+mod RowSteps
+mod SettledKeys
+mod Sums

@@ -1,0 +1,71 @@
+use Rattle.std.proofs.Common.{◌≡◌, ◌∷◌, ℕ, List, None, Some, ap, sym, subst, ◌∙◌, refl}
+use Rattle.apex_base.specs.RowSums.{module_at}
+use Rattle.package_store.specs.Changes.{rows_in, shown}
+use Rattle.package_store.specs.Placed.{path_in}
+use Rattle.package_store.proofs.Filed.{Filed, starts, passes, takes, is_named, has_room, ends}
+use Rattle.package_store.proofs.reading.module_of.Goals as goal
+
+pub loop-key-init : goal.loop-key-init
+loop-key-init c =
+    let whole = module_at (rows_in c.args.rows.now.entries) c.args.session c.args.part in
+    let gives = c.into_iter-key-iterator.ensures.into_iter_gives in
+    subst (λ es. Filed c.args.session c.args.part whole c.new-files.result (shown es)) (sym gives.0)
+    (starts c.args.session c.args.part whole c.new-files.result c.args.rows.now.entries refl c.requires gives.5
+    c.new-files.ensures)
+
+pub add_file-requires-clause-named : goal.add_file-requires-clause-named
+add_file-requires-clause-named c =
+    let whole = module_at (rows_in c.args.rows.now.entries) c.args.session c.args.part in
+    let row : List ℕ × List ℕ = (c.in-Some.key.now.items, c.in-Some.content.now) in
+    let rest = shown c.next.new.self in
+    let f : Filed c.args.session c.args.part whole c.loop-key.files (row ∷ rest) =
+    subst (λ es. Filed c.args.session c.args.part whole c.loop-key.files (shown es)) c.in-Some.ensures.steps
+    c.loop-key.invariant in
+    let its : path_in c.args.session c.args.part row.0 ≡ Some c.in-Some-path_in.path.now =
+    ap (path_in c.args.session c.args.part) (sym c.deref.ensures.value) ∙ sym c.in-Some-path_in.ensures in
+    is_named c.args.session c.args.part whole c.loop-key.files row rest f c.in-Some-path_in.path.now its c.requires
+
+pub add_file-requires-clause-fits : goal.add_file-requires-clause-fits
+add_file-requires-clause-fits c =
+    let whole = module_at (rows_in c.args.rows.now.entries) c.args.session c.args.part in
+    let row : List ℕ × List ℕ = (c.in-Some.key.now.items, c.in-Some.content.now) in
+    let rest = shown c.next.new.self in
+    let f : Filed c.args.session c.args.part whole c.loop-key.files (row ∷ rest) =
+    subst (λ es. Filed c.args.session c.args.part whole c.loop-key.files (shown es)) c.in-Some.ensures.steps
+    c.loop-key.invariant in
+    let its : path_in c.args.session c.args.part row.0 ≡ Some c.in-Some-path_in.path.now =
+    ap (path_in c.args.session c.args.part) (sym c.deref.ensures.value) ∙ sym c.in-Some-path_in.ensures in
+    rw c.as_slice.ensures
+    (has_room c.args.session c.args.part whole c.loop-key.files row rest f c.in-Some-path_in.path.now its c.requires)
+
+pub loop-key-preserved : goal.loop-key-preserved
+loop-key-preserved c =
+    let whole = module_at (rows_in c.args.rows.now.entries) c.args.session c.args.part in
+    let row : List ℕ × List ℕ = (c.in-Some.key.now.items, c.in-Some.content.now) in
+    let rest = shown c.next.new.self in
+    let f : Filed c.args.session c.args.part whole c.loop-key.files (row ∷ rest) =
+    subst (λ es. Filed c.args.session c.args.part whole c.loop-key.files (shown es)) c.in-Some.ensures.steps
+    c.loop-key.invariant in
+    let none : path_in c.args.session c.args.part row.0 ≡ None =
+    ap (path_in c.args.session c.args.part) (sym c.deref.ensures.value) ∙ sym c.in_default.ensures in
+    passes c.args.session c.args.part whole c.loop-key.files row rest f none
+
+pub loop-key-preserved-in-Continue-1 : goal.loop-key-preserved-in-Continue-1
+loop-key-preserved-in-Continue-1 c =
+    let whole = module_at (rows_in c.args.rows.now.entries) c.args.session c.args.part in
+    let row : List ℕ × List ℕ = (c.in-Some.key.now.items, c.in-Some.content.now) in
+    let rest = shown c.next.new.self in
+    let f : Filed c.args.session c.args.part whole c.loop-key.files (row ∷ rest) =
+    subst (λ es. Filed c.args.session c.args.part whole c.loop-key.files (shown es)) c.in-Some.ensures.steps
+    c.loop-key.invariant in
+    let its : path_in c.args.session c.args.part row.0 ≡ Some c.in-Some-path_in.path.now =
+    ap (path_in c.args.session c.args.part) (sym c.deref.ensures.value) ∙ sym c.in-Some-path_in.ensures in
+    takes c.args.session c.args.part whole c.loop-key.files row rest f c.in-Some-path_in.path.now its
+    c.add_file.new.files (rw c.as_slice.ensures at c.in_ok-add_file.ensures)
+
+pub returns : goal.returns
+returns c =
+    let whole = module_at (rows_in c.args.rows.now.entries) c.args.session c.args.part in
+    ends c.args.session c.args.part whole c.loop-key.files
+    (subst (λ es. Filed c.args.session c.args.part whole c.loop-key.files (shown es)) c.in-None.ensures.steps.0
+    c.loop-key.invariant)

@@ -1,0 +1,5 @@
+pub mod Changes
+pub mod Named
+pub mod Placed
+pub mod Settled
+pub mod Spelled

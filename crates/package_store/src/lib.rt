@@ -1,0 +1,20 @@
+//! The rows of modules and of names: what a call or a boot writes of them, and what is read from them.
+#![tactic(auto)]
+
+mod changes;
+mod held;
+mod key;
+mod laws;
+mod naming;
+mod placing;
+mod reading;
+mod settling;
+#[cfg(test)]
+mod tests;
+mod weight;
+
+pub use laws::{rows_are_those_shown, settled_by_key};
+pub use placing::put;
+pub use reading::module_of;
+pub use settling::settle;
+pub use weight::kept_weight;

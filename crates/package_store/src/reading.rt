@@ -1,0 +1,68 @@
+//! Reading a module.
+ghost use Rattle.std.specs.Prelude.{◌≡◌, IfOk, IsTrue, None, OnOk, option_map};
+ghost use Rattle.std.specs.FinMap as fin;
+ghost use Rattle.apex_base.specs.Modules.{IsModule, put_fault};
+ghost use Rattle.apex_base.specs.RowSums.{module_at};
+ghost use Rattle.apex_base.specs.Text.{is_path};
+ghost use Rattle.package_store.specs.Changes.{rows_in};
+ghost use Rattle.package_store.specs.Placed.{path_in};
+
+use apex_base::{Bytes, FilePath, Module, PutWhy, SessionId};
+use std::alloc::{AllocError, Global};
+use std::collections::BTreeMap;
+
+/// The module that this part of a session submitted.
+pub fn module_of(
+    alloc: Global,
+    rows: &BTreeMap<Vec<u8>, Bytes>,
+    session: SessionId,
+    part: u32,
+) -> Result<Module, AllocError>
+    requires { IsModule (module_at (rows_in rows.now.entries) session part) }
+    ensures { IfOk result (λ files. files ≡ module_at (rows_in rows.now.entries) session part) }
+{
+    let mut files = Module::new(alloc);
+    for (key, content) in rows {
+        if let Some(path) = path_in(session, part, key) {
+            add_file(alloc, &mut files, path, content.as_slice())?;
+        }
+    }
+    Ok(files)
+}
+
+fn path_in(session: SessionId, part: u32, key: &[u8]) -> Option<&[u8]>
+    ensures { option_map (λ path. path.now) result ≡ path_in session part key.now }
+{
+    let Some((front, path)) = key.split_first_chunk::<6>() else {
+        return None;
+    };
+    let [tag, a, b, c, d, number] = *front;
+    if tag == 5 && [a, b, c, d] == session.0.to_be_bytes() && u32::from(number) == part {
+        Some(path)
+    } else {
+        None
+    }
+}
+
+/// Puts a file that can be put.
+fn add_file(
+    alloc: Global,
+    files: &mut Module,
+    path: &[u8],
+    content: &[u8],
+) -> Result<(), AllocError>
+    requires named { IsTrue (is_path path.now) }
+    requires fits { put_fault files.old path.now content.now ≡ None }
+    ensures { OnOk result (files.new ≡ fin.insert files.old path.now content.now) }
+{
+    let Some(path) = FilePath::read(path) else {
+        unreachable!()
+    };
+    let content = Vec::from_slice(alloc, content)?;
+    match files.put(path, content) {
+        Ok(()) => Ok(()),
+        Err(PutWhy::NoMemory) => Err(AllocError),
+        Err(PutWhy::Files) => unreachable!(),
+        Err(PutWhy::Large { .. }) => unreachable!(),
+    }
+}

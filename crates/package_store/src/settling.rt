@@ -1,0 +1,101 @@
+//! Rows that follow from the records of sessions.
+ghost use Rattle.std.specs.Prelude.{◌≡◌, ℕ, List, IfOk, OnOk, if◌then◌else◌};
+ghost use Rattle.std.specs.Cmp.Lexicographic.{slice_cmp};
+ghost use Rattle.std.specs.FinMap as fin;
+ghost use Rattle.std.specs.List.{AllByRecursion};
+ghost use Rattle.std.specs.List.Sorted.{IsStrictlySortedBy};
+ghost use Rattle.std.specs.Ordering.{nat_cmp};
+ghost use Rattle.std.specs.Str.{bytes_eq};
+ghost use Rattle.row_codec.specs.Batch.{keys_of};
+ghost use Rattle.package_store.specs.Changes.{changed, rows_in};
+ghost use Rattle.package_store.specs.Named.{note_row, resettled};
+ghost use Rattle.package_store.specs.Settled.{settled_value, file_stays, IsChange, HaveParts};
+
+use crate::changes::Changes;
+use crate::held::{is_target, kept};
+use crate::key::{ACTIVE, BACKUP, FILE};
+use crate::naming::name_changes;
+use apex_base::{Bytes, Record, SessionId, Target};
+use row_codec::Row;
+use std::alloc::{AllocError, Global};
+use std::collections::BTreeMap;
+
+/// The changes that lead to what the records of all sessions say: which target each name holds, which one it held
+/// before a session that can still be undone, and which modules are kept.
+pub fn settle(
+    alloc: Global,
+    rows: &BTreeMap<Vec<u8>, Bytes>,
+    records: &[Record],
+) -> Result<Vec<Row>, AllocError>
+    requires { HaveParts records.now }
+
+    // With them each key has its settled value.
+    ensures after { IfOk result (λ changes. (key : List ℕ)
+        → fin.get (changed (rows_in rows.now.entries) changes.items) key
+        ≡ settled_value (rows_in rows.now.entries) records.now key) }
+
+    // They hold exactly what changes, and can stand in a batch.
+    ensures exact { IfOk result (λ changes. AllByRecursion (IsChange (rows_in rows.now.entries)) changes.items) }
+    ensures ascending { IfOk result (λ changes. IsStrictlySortedBy (slice_cmp nat_cmp) (keys_of changes.items)) }
+{
+    let mut changes = name_changes(alloc, records)?;
+    let targets = kept(alloc, records)?;
+    for (key, value) in rows {
+        settle_row(alloc, &mut changes, &targets, key, value.as_slice())?;
+    }
+    changes.into_rows(alloc)
+}
+
+fn settle_row(
+    alloc: Global,
+    changes: &mut Changes,
+    kept: &[Target],
+    key: &[u8],
+    value: &[u8],
+) -> Result<(), AllocError>
+    ensures { OnOk result ((q : List ℕ) → fin.get changes.new q
+        ≡ (if bytes_eq q key.now then note_row kept.now key.now value.now (fin.get changes.old key.now)
+        else fin.get changes.old q)) }
+{
+    let [tag, rest @ ..] = key else {
+        return Ok(());
+    };
+    if *tag == ACTIVE || *tag == BACKUP {
+        return settle_name(alloc, changes, key, value);
+    }
+    if *tag == FILE && !file_stays(kept, rest) {
+        return changes.put(Vec::from_slice(alloc, key)?, None);
+    }
+    Ok(())
+}
+
+fn settle_name(
+    alloc: Global,
+    changes: &mut Changes,
+    key: &[u8],
+    value: &[u8],
+) -> Result<(), AllocError>
+    ensures { OnOk result ((q : List ℕ) → fin.get changes.new q
+        ≡ (if bytes_eq q key.now then resettled (fin.get changes.old key.now) value.now
+        else fin.get changes.old q)) }
+{
+    if !changes.has(key) {
+        return changes.put(Vec::from_slice(alloc, key)?, None);
+    }
+    if changes.is_wanted(key, value) {
+        changes.remove(key);
+    }
+    Ok(())
+}
+
+fn file_stays(kept: &[Target], rest: &[u8]) -> bool
+    ensures { result ≡ file_stays kept.now rest.now }
+{
+    match rest {
+        [a, b, c, d, part, ..] => {
+            let session = SessionId(u32::from_be_bytes([*a, *b, *c, *d]));
+            is_target(kept, session, u32::from(*part))
+        }
+        _ => true,
+    }
+}

@@ -1,0 +1,31 @@
+//! What the modules that are kept weigh.
+ghost use Rattle.std.specs.Prelude.{◌≡◌, ◌<◌, ◌^◌};
+ghost use Rattle.apex_base.specs.RowSums.{kept_weight, file_row_weight, has_tag};
+ghost use Rattle.package_store.specs.Changes.{rows_in};
+
+use crate::key::FILE;
+use apex_base::Bytes;
+use std::collections::BTreeMap;
+
+/// The sum of the weights of the files that are kept. It takes no memory.
+pub fn kept_weight(rows: &BTreeMap<Vec<u8>, Bytes>) -> u64
+    requires { kept_weight (rows_in rows.now.entries) < 2 ^ 64 }
+    ensures { result ≡ kept_weight (rows_in rows.now.entries) }
+{
+    let mut weight = 0;
+    for (key, content) in rows {
+        if has_tag(key, FILE) {
+            weight += content.as_slice().len() as u64 + 256;
+        }
+    }
+    weight
+}
+
+fn has_tag(key: &[u8], tag: u8) -> bool
+    ensures { result ≡ has_tag tag key.now }
+{
+    match key {
+        [first, ..] => *first == tag,
+        [] => false,
+    }
+}
