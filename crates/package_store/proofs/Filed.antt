@@ -21,7 +21,7 @@ use Rattle.apex_base.specs.RowSums.{module_at}
 use Rattle.apex_base.specs.Text.{is_path}
 use Rattle.apex_base.proofs.Maps.{empty_module}
 use Rattle.apex_base.proofs.RowMaps.{same_bytes, eq_bytes, same_names, in_ends, tabulated}
-use Rattle.package_store.specs.Changes.{shown, rows_in}
+use Rattle.row_map.specs.Rows.{shown, rows_of}
 use Rattle.package_store.specs.Placed.{path_in, or_before}
 use Rattle.package_store.proofs.Fronts.{same_path, path_there, key_of_path}
 use Rattle.package_store.proofs.Maps.{same_key, at_insert, not_below, ascending}
@@ -83,17 +83,17 @@ module _ (session : SessionId) (part : ℕ) where
   file_found (e ∷ es) path = row_more e es path (path_in session part e.0) refl (file_found es path)
 
   -- the files of the part among all rows are its module
-  pub all_filed : (es : List (Vec ℕ Global × List ℕ)) → files_in (shown es) ≡ module_at (rows_in es) session part
+  pub all_filed : (es : List (Vec ℕ Global × List ℕ)) → files_in (shown es) ≡ module_at (rows_of es) session part
   all_filed es =
-      same_names (files_in (shown es)) (module_at (rows_in es) session part)
+      same_names (files_in (shown es)) (module_at (rows_of es) session part)
       (λ path. file_found (shown es) path
       ∙ sym (get-from_entries nat_list_cmp_total (shown es) (file_front session part path))
-      ∙ sym (tabulated (λ path. fin.get (rows_in es) (file_front session part path)) (ends_of 6 (rows_in es)) path
-      (λ v e. in_ends 6 (rows_in es) (file_front session part path) v e)))
+      ∙ sym (tabulated (λ path. fin.get (rows_of es) (file_front session part path)) (ends_of 6 (rows_of es)) path
+      (λ v e. in_ends 6 (rows_of es) (file_front session part path) v e)))
 
   -- no rows are a module without files
-  pub no_module : (es : List (Vec ℕ Global × List ℕ)) → es ≡ [] → IsModule (module_at (rows_in es) session part)
-  no_module es none = subst (λ (es : List (Vec ℕ Global × List ℕ)). IsModule (module_at (rows_in es) session part))
+  pub no_module : (es : List (Vec ℕ Global × List ℕ)) → es ≡ [] → IsModule (module_at (rows_of es) session part)
+  no_module es none = subst (λ (es : List (Vec ℕ Global × List ℕ)). IsModule (module_at (rows_of es) session part))
       (sym none) (subst IsModule (all_filed []) empty_module)
 
   -- these files, and those of the rows that are left, are the module
@@ -104,7 +104,7 @@ module _ (session : SessionId) (part : ℕ) where
 
   module _ (whole files : FileMap) where
     -- at first no file is there
-    pub starts : (es : List (Vec ℕ Global × List ℕ)) → whole ≡ module_at (rows_in es) session part → IsModule whole
+    pub starts : (es : List (Vec ℕ Global × List ℕ)) → whole ≡ module_at (rows_of es) session part → IsModule whole
         → IsStrictlySortedBy (λ (x y : Vec ℕ Global). slice_cmp nat_cmp x.items y.items) (keys_of es)
         → files ≡ fin.empty → Filed whole files (shown es)
     starts es is h up none =

@@ -20,7 +20,7 @@ use Rattle.std.specs.declared.vec.Vec.{Vec}
 use Rattle.apex_base.specs.Keys.{RowMap}
 use Rattle.apex_base.specs.Tables.{NameMap}
 use Rattle.apex_base.proofs.RowMaps.{same_bytes, same_names}
-use Rattle.package_store.specs.Changes.{changed_at}
+use Rattle.row_map.specs.Rows.{changed_at}
 
 abbrev pub same_key : List ℕ → List ℕ → Bool
 same_key = eq_by_cmp (slice_cmp nat_cmp)

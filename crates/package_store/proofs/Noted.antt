@@ -18,7 +18,7 @@ use Rattle.apex_base.specs.Keys.{RowMap}
 use Rattle.apex_base.specs.Members.{In}
 use Rattle.apex_base.proofs.RowMaps.{same_bytes, entry_get, sorted_entries}
 use Rattle.row_codec.specs.Batch as batch
-use Rattle.package_store.specs.Changes.{changed, changed_at}
+use Rattle.row_map.specs.Rows.{changed, changed_at}
 use Rattle.package_store.specs.Settled.{IsChange}
 use Rattle.package_store.specs.Spelled.{ChangeMap, change_of, listed, is_same, change_to}
 use Rattle.package_store.proofs.Maps.{same_key, at_change}

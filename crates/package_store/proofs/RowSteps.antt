@@ -18,7 +18,7 @@ use Rattle.apex_base.specs.declared.records.Record.{Record}
 use Rattle.apex_base.specs.Held.{kept}
 use Rattle.apex_base.specs.Keys.{RowMap}
 use Rattle.apex_base.proofs.RowMaps.{eq_bytes}
-use Rattle.package_store.specs.Changes.{shown, rows_in}
+use Rattle.row_map.specs.Rows.{shown, rows_of}
 use Rattle.package_store.specs.Named.{Note, resettled, note_row}
 use Rattle.package_store.specs.Settled.{active_value, backup_value, settled, settled_value, file_stays}
 use Rattle.package_store.specs.Spelled.{ChangeMap, change_to}
@@ -78,9 +78,9 @@ module _ (records : List Record) where
   pub starts : (es : List (Vec ℕ Global × List ℕ)) (changes : ChangeMap)
       → ((q : List ℕ) → fin.get changes q ≡ change_to None (settled records q None))
       → IsStrictlySortedBy (λ (x y : Vec ℕ Global). slice_cmp nat_cmp x.items y.items) (keys_of es)
-      → Settling records (rows_in es) changes (shown es)
+      → Settling records (rows_of es) changes (shown es)
   starts es changes noted up =
-      let found : (q : List ℕ) → fin.get (rows_in es) q ≡ fin.find (slice_cmp nat_cmp) q (shown es) =
+      let found : (q : List ℕ) → fin.get (rows_of es) q ≡ fin.find (slice_cmp nat_cmp) q (shown es) =
       λ q. get-from_entries nat_list_cmp_total (shown es) q in
       record {
         noted = λ q. noted q ∙ ap (λ (o : Option (List ℕ)). change_to o (settled records q o))

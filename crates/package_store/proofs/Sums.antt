@@ -8,11 +8,11 @@ use Rattle.std.specs.Ordering.{nat_cmp}
 use Rattle.std.specs.declared.alloc.Global.{Global}
 use Rattle.std.specs.declared.vec.Vec.{Vec}
 use Rattle.apex_base.specs.RowSums.{file_row_weight, kept_weight}
-use Rattle.package_store.specs.Changes.{shown, rows_in}
+use Rattle.row_map.specs.Rows.{shown, rows_of}
 use Rattle.package_store.proofs.Maps.{ascending, in_order}
 
 -- the weight of rows is the sum over a `BTreeMap` that holds them
 pub all_weights : (es : List (Vec ℕ Global × List ℕ))
     → IsStrictlySortedBy (λ (x y : Vec ℕ Global). slice_cmp nat_cmp x.items y.items) (keys_of es)
-    → sum_by file_row_weight (shown es) ≡ kept_weight (rows_in es)
+    → sum_by file_row_weight (shown es) ≡ kept_weight (rows_of es)
 all_weights es up = sym (ap (sum_by file_row_weight) (in_order (shown es) (ascending es up)))

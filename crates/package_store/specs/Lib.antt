@@ -1,4 +1,3 @@
-pub mod Changes
 pub mod Named
 pub mod Placed
 pub mod Settled

@@ -7,7 +7,7 @@ ghost use Rattle.std.specs.List.Sorted.{IsStrictlySortedBy};
 ghost use Rattle.std.specs.Ordering.{nat_cmp};
 ghost use Rattle.apex_base.specs.Keys.{RowMap};
 ghost use Rattle.row_codec.specs.Batch.{IsRow, keys_of};
-ghost use Rattle.package_store.specs.Changes.{changed};
+ghost use Rattle.row_map.specs.Rows.{changed};
 ghost use Rattle.package_store.specs.Placed.{file_change, file_changes, placed_value};
 
 use crate::key::file_key;

@@ -4,7 +4,7 @@ ghost use Rattle.std.specs.FinMap as fin;
 ghost use Rattle.apex_base.specs.Modules.{IsModule, put_fault};
 ghost use Rattle.apex_base.specs.RowSums.{module_at};
 ghost use Rattle.apex_base.specs.Text.{is_path};
-ghost use Rattle.package_store.specs.Changes.{rows_in};
+ghost use Rattle.row_map.specs.Rows.{rows_of};
 ghost use Rattle.package_store.specs.Placed.{path_in};
 
 use apex_base::{Bytes, FilePath, Module, PutWhy, SessionId};
@@ -18,8 +18,8 @@ pub fn module_of(
     session: SessionId,
     part: u32,
 ) -> Result<Module, AllocError>
-    requires { IsModule (module_at (rows_in rows.now.entries) session part) }
-    ensures { IfOk result (λ files. files ≡ module_at (rows_in rows.now.entries) session part) }
+    requires { IsModule (module_at (rows_of rows.now.entries) session part) }
+    ensures { IfOk result (λ files. files ≡ module_at (rows_of rows.now.entries) session part) }
 {
     let mut files = Module::new(alloc);
     for (key, content) in rows {

@@ -7,7 +7,7 @@ ghost use Rattle.std.specs.List.Sorted.{IsStrictlySortedBy};
 ghost use Rattle.std.specs.Ordering.{nat_cmp};
 ghost use Rattle.std.specs.Str.{bytes_eq};
 ghost use Rattle.row_codec.specs.Batch.{keys_of};
-ghost use Rattle.package_store.specs.Changes.{changed, rows_in};
+ghost use Rattle.row_map.specs.Rows.{changed, rows_of};
 ghost use Rattle.package_store.specs.Named.{note_row, resettled};
 ghost use Rattle.package_store.specs.Settled.{settled_value, file_stays, IsChange, HaveParts};
 
@@ -31,11 +31,11 @@ pub fn settle(
 
     // With them each key has its settled value.
     ensures after { IfOk result (λ changes. (key : List ℕ)
-        → fin.get (changed (rows_in rows.now.entries) changes.items) key
-        ≡ settled_value (rows_in rows.now.entries) records.now key) }
+        → fin.get (changed (rows_of rows.now.entries) changes.items) key
+        ≡ settled_value (rows_of rows.now.entries) records.now key) }
 
     // They hold exactly what changes, and can stand in a batch.
-    ensures exact { IfOk result (λ changes. AllByRecursion (IsChange (rows_in rows.now.entries)) changes.items) }
+    ensures exact { IfOk result (λ changes. AllByRecursion (IsChange (rows_of rows.now.entries)) changes.items) }
     ensures ascending { IfOk result (λ changes. IsStrictlySortedBy (slice_cmp nat_cmp) (keys_of changes.items)) }
 {
     let mut changes = name_changes(alloc, records)?;

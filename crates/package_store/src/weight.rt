@@ -1,7 +1,7 @@
 //! What the modules that are kept weigh.
 ghost use Rattle.std.specs.Prelude.{◌≡◌, ◌<◌, ◌^◌};
 ghost use Rattle.apex_base.specs.RowSums.{kept_weight, file_row_weight, has_tag};
-ghost use Rattle.package_store.specs.Changes.{rows_in};
+ghost use Rattle.row_map.specs.Rows.{rows_of};
 
 use crate::key::FILE;
 use apex_base::Bytes;
@@ -9,8 +9,8 @@ use std::collections::BTreeMap;
 
 /// The sum of the weights of the files that are kept. It takes no memory.
 pub fn kept_weight(rows: &BTreeMap<Vec<u8>, Bytes>) -> u64
-    requires { kept_weight (rows_in rows.now.entries) < 2 ^ 64 }
-    ensures { result ≡ kept_weight (rows_in rows.now.entries) }
+    requires { kept_weight (rows_of rows.now.entries) < 2 ^ 64 }
+    ensures { result ≡ kept_weight (rows_of rows.now.entries) }
 {
     let mut weight = 0;
     for (key, content) in rows {

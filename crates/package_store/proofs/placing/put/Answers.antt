@@ -8,7 +8,7 @@ use Rattle.std.specs.Ordering.{nat_cmp}
 use Rattle.apex_base.specs.Modules.{IsModule}
 use Rattle.row_codec.specs.declared.batch.Row.{Row}
 use Rattle.row_codec.specs.Batch as batch
-use Rattle.package_store.specs.Changes.{changed}
+use Rattle.row_map.specs.Rows.{changed}
 use Rattle.package_store.specs.Placed.{file_changes}
 use Rattle.package_store.proofs.Maps.{entries_again}
 use Rattle.package_store.proofs.Placements.{placed, ascends, fits}

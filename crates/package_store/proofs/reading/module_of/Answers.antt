@@ -1,13 +1,13 @@
 use Rattle.std.proofs.Common.{◌≡◌, ◌∷◌, ℕ, List, None, Some, ap, sym, subst, ◌∙◌, refl}
 use Rattle.apex_base.specs.RowSums.{module_at}
-use Rattle.package_store.specs.Changes.{rows_in, shown}
+use Rattle.row_map.specs.Rows.{rows_of, shown}
 use Rattle.package_store.specs.Placed.{path_in}
 use Rattle.package_store.proofs.Filed.{Filed, starts, passes, takes, is_named, has_room, ends}
 use Rattle.package_store.proofs.reading.module_of.Goals as goal
 
 pub loop-key-init : goal.loop-key-init
 loop-key-init c =
-    let whole = module_at (rows_in c.args.rows.now.entries) c.args.session c.args.part in
+    let whole = module_at (rows_of c.args.rows.now.entries) c.args.session c.args.part in
     let gives = c.into_iter-key-iterator.ensures.into_iter_gives in
     subst (λ es. Filed c.args.session c.args.part whole c.new-files.result (shown es)) (sym gives.0)
     (starts c.args.session c.args.part whole c.new-files.result c.args.rows.now.entries refl c.requires gives.5
@@ -15,7 +15,7 @@ loop-key-init c =
 
 pub add_file-requires-clause-named : goal.add_file-requires-clause-named
 add_file-requires-clause-named c =
-    let whole = module_at (rows_in c.args.rows.now.entries) c.args.session c.args.part in
+    let whole = module_at (rows_of c.args.rows.now.entries) c.args.session c.args.part in
     let row : List ℕ × List ℕ = (c.in-Some.key.now.items, c.in-Some.content.now) in
     let rest = shown c.next.new.self in
     let f : Filed c.args.session c.args.part whole c.loop-key.files (row ∷ rest) =
@@ -27,7 +27,7 @@ add_file-requires-clause-named c =
 
 pub add_file-requires-clause-fits : goal.add_file-requires-clause-fits
 add_file-requires-clause-fits c =
-    let whole = module_at (rows_in c.args.rows.now.entries) c.args.session c.args.part in
+    let whole = module_at (rows_of c.args.rows.now.entries) c.args.session c.args.part in
     let row : List ℕ × List ℕ = (c.in-Some.key.now.items, c.in-Some.content.now) in
     let rest = shown c.next.new.self in
     let f : Filed c.args.session c.args.part whole c.loop-key.files (row ∷ rest) =
@@ -40,7 +40,7 @@ add_file-requires-clause-fits c =
 
 pub loop-key-preserved : goal.loop-key-preserved
 loop-key-preserved c =
-    let whole = module_at (rows_in c.args.rows.now.entries) c.args.session c.args.part in
+    let whole = module_at (rows_of c.args.rows.now.entries) c.args.session c.args.part in
     let row : List ℕ × List ℕ = (c.in-Some.key.now.items, c.in-Some.content.now) in
     let rest = shown c.next.new.self in
     let f : Filed c.args.session c.args.part whole c.loop-key.files (row ∷ rest) =
@@ -52,7 +52,7 @@ loop-key-preserved c =
 
 pub loop-key-preserved-in-Continue-1 : goal.loop-key-preserved-in-Continue-1
 loop-key-preserved-in-Continue-1 c =
-    let whole = module_at (rows_in c.args.rows.now.entries) c.args.session c.args.part in
+    let whole = module_at (rows_of c.args.rows.now.entries) c.args.session c.args.part in
     let row : List ℕ × List ℕ = (c.in-Some.key.now.items, c.in-Some.content.now) in
     let rest = shown c.next.new.self in
     let f : Filed c.args.session c.args.part whole c.loop-key.files (row ∷ rest) =
@@ -65,7 +65,7 @@ loop-key-preserved-in-Continue-1 c =
 
 pub returns : goal.returns
 returns c =
-    let whole = module_at (rows_in c.args.rows.now.entries) c.args.session c.args.part in
+    let whole = module_at (rows_of c.args.rows.now.entries) c.args.session c.args.part in
     ends c.args.session c.args.part whole c.loop-key.files
     (subst (λ es. Filed c.args.session c.args.part whole c.loop-key.files (shown es)) c.in-None.ensures.steps.0
     c.loop-key.invariant)

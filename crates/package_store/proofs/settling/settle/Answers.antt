@@ -4,7 +4,7 @@ use Rattle.std.specs.List.{AllByRecursion}
 use Rattle.std.specs.Str.{bytes_eq}
 use Rattle.apex_base.specs.Held.{kept}
 use Rattle.row_codec.specs.declared.batch.Row.{Row}
-use Rattle.package_store.specs.Changes.{rows_in, shown, changed}
+use Rattle.row_map.specs.Rows.{rows_of, shown, changed}
 use Rattle.package_store.specs.Named.{note_row}
 use Rattle.package_store.specs.Settled.{settled_value, IsChange}
 use Rattle.package_store.specs.Spelled.{change_to}
@@ -18,14 +18,14 @@ pub loop-key-init : goal.loop-key-init
 loop-key-init c =
     let records = c.args.records.now in
     let gives = c.into_iter-key-iterator.ensures.into_iter_gives in
-    subst (λ es. Settling records (rows_in c.args.rows.now.entries) c.in_ok-changes.changes (shown es)) (sym gives.0)
+    subst (λ es. Settling records (rows_of c.args.rows.now.entries) c.in_ok-changes.changes (shown es)) (sym gives.0)
     (starts records c.args.rows.now.entries c.in_ok-changes.changes
     (λ q. c.in_ok-changes.ensures q ∙ all_noted records q) gives.5)
 
 pub loop-key-preserved : goal.loop-key-preserved
 loop-key-preserved c =
     let records = c.args.records.now in
-    let rows = rows_in c.args.rows.now.entries in
+    let rows = rows_of c.args.rows.now.entries in
     let old = c.loop-key.changes in
     let row : List ℕ × List ℕ = (c.in-Some.key.now.items, c.in-Some.value.now) in
     let rest = shown c.next.new.self in
@@ -43,23 +43,23 @@ loop-key-preserved c =
 
 -- each key has its change where the loop ends
 noted : (c : goal.After-drop-targets-2) → (q : List ℕ) → fin.get c.loop-key.changes q
-    ≡ change_to (fin.get (rows_in c.args.rows.now.entries) q)
-    (settled_value (rows_in c.args.rows.now.entries) c.args.records.now q)
+    ≡ change_to (fin.get (rows_of c.args.rows.now.entries) q)
+    (settled_value (rows_of c.args.rows.now.entries) c.args.records.now q)
 noted c =
-    ends c.args.records.now (rows_in c.args.rows.now.entries) c.loop-key.changes
-    (subst (λ es. Settling c.args.records.now (rows_in c.args.rows.now.entries) c.loop-key.changes (shown es))
+    ends c.args.records.now (rows_of c.args.rows.now.entries) c.loop-key.changes
+    (subst (λ es. Settling c.args.records.now (rows_of c.args.rows.now.entries) c.loop-key.changes (shown es))
     c.in-None.ensures.steps.0 c.loop-key.invariant)
 
 pub returns-clause-after : goal.returns-clause-after
 returns-clause-after c =
-    let rows = rows_in c.args.rows.now.entries in
+    let rows = rows_of c.args.rows.now.entries in
     if_ok c.into_rows.result c.into_rows.ensures.rows
     (λ (v : Vec Row Global) is q. ap (λ (rs : List Row). fin.get (changed rows rs) q) is
     ∙ all_made rows c.loop-key.changes (settled_value rows c.args.records.now) (noted c) q)
 
 pub returns-clause-exact : goal.returns-clause-exact
 returns-clause-exact c =
-    let rows = rows_in c.args.rows.now.entries in
+    let rows = rows_of c.args.rows.now.entries in
     if_ok c.into_rows.result c.into_rows.ensures.rows
     (λ (v : Vec Row Global) is. subst (λ (rs : List Row). AllByRecursion (IsChange rows) rs) (sym is)
     (all_change rows c.loop-key.changes (settled_value rows c.args.records.now) (noted c)))

@@ -1,7 +1,7 @@
 use Rattle.std.proofs.Common.{arith, ap}
 use Rattle.std.specs.List.{sum_by}
 use Rattle.apex_base.specs.RowSums.{file_row_weight}
-use Rattle.package_store.specs.Changes.{shown}
+use Rattle.row_map.specs.Rows.{shown}
 use Rattle.package_store.proofs.Sums.{all_weights}
 use Rattle.package_store.proofs.weight.kept_weight.Goals as goal
 
