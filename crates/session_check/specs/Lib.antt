@@ -1,0 +1,3 @@
+pub mod LawfulSessions
+pub mod Marks
+pub mod Sound
