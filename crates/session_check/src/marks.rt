@@ -1,6 +1,6 @@
 //! Marks of sessions: what two sessions may not have in common, for each name.
 ghost use Rattle.std.specs.Prelude.{◌≡◌, ◌++◌, IfOk, OnOk, flat_map, map};
-ghost use Rattle.session_check.specs.Marks.{counts, mark_of, marks_of, id_numbers};
+ghost use Rattle.session_check.specs.Marks.{counts, mark_of, marks_of, id_numbers, AreMarks};
 
 use apex_base::{Name, Part, Record, RollbackState, SessionId};
 use std::alloc::{AllocError, Global};
@@ -19,7 +19,17 @@ pub(crate) enum Which {
     Unfinished,
     Available,
     Activated,
+    Standing,
     Succeeded,
+}
+
+/// The marks of these sessions, in order.
+pub(crate) fn sorted_marks(alloc: Global, sessions: &[Record], which: Which) -> Result<Vec<Mark>, AllocError>
+    ensures { IfOk result (λ marks. AreMarks which sessions.now marks.items) }
+{
+    let mut marks = marks(alloc, sessions, which)?;
+    marks.sort()?;
+    Ok(marks)
 }
 
 /// The marks of these sessions.
@@ -51,6 +61,7 @@ fn counts(which: Which, r: &Record) -> bool
         Which::Unfinished => r.state.is_unfinished(),
         Which::Available => RollbackState::is_available(r.rollback),
         Which::Activated => r.activation != 0,
+        Which::Standing => r.state.is_standing(),
         Which::Succeeded => r.state.is_success(),
     }
 }
@@ -64,7 +75,7 @@ fn mark_of(which: Which, r: &Record, p: &Part) -> Mark
             boot: 0,
             session: 0,
         },
-        Which::Activated => Mark {
+        Which::Activated | Which::Standing => Mark {
             name: p.name,
             boot: r.activation,
             session: 0,
