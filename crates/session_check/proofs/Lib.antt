@@ -1,6 +1,8 @@
 pub mod Differing
 pub mod Earlier
+pub mod Equal
 pub mod Last
+pub mod Lawfulness
 pub mod Lookups
 pub mod Marked
 pub mod Orders

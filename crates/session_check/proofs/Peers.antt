@@ -1,6 +1,6 @@
 -- Sessions that share a name, and sessions that share an id, by marks and numbers that differ. Callers want
 -- `peers_by_marks`, `marks_by_peers`, `ids_by_numbers` and `numbers_by_ids`.
-use Rattle.std.proofs.Common.{◌≡◌, ◌≢◌, ℕ, ◌<◌, Bool, true, false, cond, List, [], ◌∷◌, map, flat_map, sym, ap, ◌∙◌, refl, inl, inr, arith}
+use Rattle.std.proofs.Common.{◌≡◌, ◌≢◌, ℕ, ◌<◌, Bool, true, false, cond, List, [], ◌∷◌, map, flat_map, sym, ap, subst, ◌∙◌, refl, inl, inr, arith}
 use Rattle.std.specs.List.{AllByRecursion}
 use Rattle.std.specs.Str.{bytes_eq}
 use Rattle.std.proofs.lemmas.Slice.Eq.{bytes_eq-Decides}
@@ -118,7 +118,8 @@ module _ (which : Which) (ss : List Record) where
 -- a session has an id if its number is among theirs
 number_in : (id : SessionId) (r : Record) → has_id id r ≡ true → In id.0 (id_numbers r)
 number_in id r h =
-    let (j, i, e) = has_in id r h in rw (← e) (in_map (λ (id : SessionId). id.0) j (ids_of r) i)
+    let (j, i, e) = has_in id r h in
+    subst (λ (n : ℕ). In n (id_numbers r)) e (in_map (λ (id : SessionId). id.0) j (ids_of r) i)
 
 in_number : (n : ℕ) (r : Record) → In n (id_numbers r) → has_id (record { 0 = n }) r ≡ true
 in_number n r h =
