@@ -1,7 +1,7 @@
 -- Lists that are joined end to end have distinct elements if each has, and no two have one in common. Callers want
 -- `flat_pairs`, `pairs_flat`, `apart_in` and `distinct_pairs`.
-use Rattle.std.proofs.Common.{◌≡◌, ◌≢◌, Bool, true, false, List, [], ◌∷◌, ◌++◌, flat_map, map, sym, ap, ◌∙◌, refl, inl, inr}
-use Rattle.std.specs.List.{AllByRecursion, IsDistinct}
+use Rattle.std.proofs.Common.{◌≡◌, ◌≢◌, Bool, true, false, List, [], ◌∷◌, ◌++◌, flat_map, sym, ap, ◌∙◌, refl, inl, inr}
+use Rattle.std.specs.List.{IsDistinct}
 use Rattle.apex_base.specs.Members.{In, EachPair}
 use Rattle.apex_base.proofs.MemberLemmas.{in_left, in_right, in_append, in_flat_map, in_flat_map_back, each_in, in_each}
 
@@ -84,9 +84,9 @@ module _ {X : Type 0} (same : X → X → Bool) (one : (x y : X) → same x y �
   distinct_differ [] d = tt
   distinct_differ (x ∷ xs) d = (
     in_each (λ (y : X). x ≢ y) xs (λ y i e.
-    let apart = each_in (λ (y : X). same x y ≡ false) xs d.0 y i in
-    let alike = ap (same x) (sym e) ∙ itself x in
-    cc),
+        let apart = each_in (λ (y : X). same x y ≡ false) xs d.0 y i in
+        let alike = ap (same x) (sym e) ∙ itself x in
+        cc),
     distinct_differ xs d.1,
   )
 

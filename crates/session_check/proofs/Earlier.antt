@@ -1,13 +1,12 @@
 -- What a name held before a session, by marks. Callers want `before_none` and `before_some`.
-use Rattle.std.proofs.Common.{◌≡◌, ◌≢◌, ◌⊎◌, ℕ, ◌<◌, ◌≤◌, ◌&&◌, Bool, true, false, List, Option, Some, None, nat_lt, sym, ap, subst, ◌∙◌, refl, inl, inr, arith}
+use Rattle.std.proofs.Common.{◌≡◌, ◌≢◌, ℕ, ◌<◌, ◌&&◌, Bool, true, List, Option, nat_lt, sym, ap, ◌∙◌, refl, inl, inr, arith}
 use Rattle.std.specs.Str.{bytes_eq}
-use Rattle.std.proofs.lemmas.Bool.{ltb-true, lt-ltb, cases_eq}
+use Rattle.std.proofs.lemmas.Bool.{cases_eq}
 use Rattle.std.proofs.lemmas.Bool.Decides.{Decides-and, Decides-ltb}
 use Rattle.std.proofs.lemmas.Slice.Eq.{bytes_eq-Decides}
 use Rattle.apex_base.specs.declared.numbers.SessionId.{SessionId}
 use Rattle.apex_base.specs.declared.records.Part.{Part}
 use Rattle.apex_base.specs.declared.records.Record.{Record}
-use Rattle.apex_base.specs.declared.records.Target.{Target}
 use Rattle.apex_base.specs.declared.records.Target.TheVariants.{Preinstalled}
 use Rattle.apex_base.specs.Held.{before, is_success}
 use Rattle.apex_base.specs.Members.{In}
@@ -15,7 +14,7 @@ use Rattle.apex_base.specs.Sessions.{names, session_of, Ascend}
 use Rattle.apex_base.proofs.MemberLemmas.{in_any}
 use Rattle.apex_base.proofs.SessionLemmas.{of_in}
 use Rattle.apex_world.proofs.DecidedTests.{itself}
-use Rattle.apex_world.proofs.LatestLemmas.{part_for, names_part, named_by, IsLatest, NoneCounts, latest_is}
+use Rattle.apex_world.proofs.LatestLemmas.{part_for, names_part, named_by, IsLatest, latest_is}
 use Rattle.session_check.specs.declared.marks.Mark.{Mark}
 use Rattle.session_check.specs.declared.marks.Which.TheVariants.{Succeeded}
 use Rattle.session_check.specs.Before.{AreDated, target_in, target_of_part}

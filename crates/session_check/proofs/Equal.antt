@@ -1,5 +1,5 @@
 -- Marks and numbers that compare alike are one. Callers want `marks_decide` and `numbers_decide`.
-use Rattle.std.proofs.Common.{◌≡◌, ℕ, true, List, ap, sym, ◌∙◌, refl, Decides}
+use Rattle.std.proofs.Common.{◌≡◌, ℕ, true, List, ap, refl}
 use Rattle.std.proofs.lemmas.Cmp.{tied_itself, nat_cmp_total}
 use Rattle.std.specs.Cmp.Lexicographic.{slice_cmp}
 use Rattle.std.specs.FinMap.{slice_cmp-IsAntisymmetric, nat_cmp-IsAntisymmetric}

@@ -1,5 +1,5 @@
 -- The test of sessions that can be undone decides that they were activated last: `last_decides`.
-use Rattle.std.proofs.Common.{◌≡◌, ℕ, ◌<◌, ◌≤◌, ◌&&◌, ◌||◌, Bool, true, false, not, List, nat_lt, sym, ap, subst, ◌∙◌, refl, inl, inr, Decides, arith}
+use Rattle.std.proofs.Common.{◌≡◌, ℕ, ◌<◌, ◌&&◌, true, not, List, nat_lt, ap, ◌∙◌, refl, inl, inr, Decides, arith}
 use Rattle.std.specs.List.{list_all}
 use Rattle.std.specs.Str.{bytes_eq}
 use Rattle.std.proofs.lemmas.Bool.{cases_lt}

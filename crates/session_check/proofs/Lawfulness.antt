@@ -1,17 +1,15 @@
 -- Sessions are lawful if and only if they are apart and have their rollback sessions: `dated`, `lawful_decides`.
-use Rattle.std.proofs.Common.{◌≡◌, ◌≢◌, ℕ, ◌<◌, ◌≤◌, ◌&&◌, Bool, true, false, not, IsTrue, List, is_some, eqb, sym, ap, subst, ◌∙◌, refl, inl, inr, Decides, arith}
+use Rattle.std.proofs.Common.{◌≡◌, ◌≢◌, ℕ, Bool, true, false, not, IsTrue, List, is_some, sym, ap, ◌∙◌, refl, inl, inr, Decides, arith}
 use Rattle.std.specs.List.{list_all}
-use Rattle.std.proofs.lemmas.Bool.{cases_eq, true≢false, eqb-true, eq-eqb}
+use Rattle.std.proofs.lemmas.Bool.{cases_eq}
 use Rattle.std.proofs.lemmas.Bool.Decides.{Decides-and, Decides-not, Decides-eqb}
 use Rattle.apex_base.specs.declared.numbers.SessionId.{SessionId}
-use Rattle.apex_base.specs.declared.records.Part.{Part}
 use Rattle.apex_base.specs.declared.records.Record.{Record}
 use Rattle.apex_base.specs.declared.records.State.{State}
 use Rattle.apex_base.specs.declared.records.State.TheVariants as state
 use Rattle.apex_base.specs.Held.{is_success, is_standing, is_undoable}
 use Rattle.apex_base.specs.Members.{In}
 use Rattle.apex_base.specs.Sessions.{names, Ascend}
-use Rattle.apex_world.specs.Decided.{has_parts, has_activation, has_its_cause, has_rollback, has_caller_ids}
 use Rattle.apex_world.specs.Decided.{is_zero, is_after_undone, have_rollback_sessions}
 use Rattle.apex_world.specs.Lawful.{ids_of, HasParts, HasActivation, has_cause, HasRollback, never_activated}
 use Rattle.apex_world.specs.Rows.{undoes}
@@ -20,15 +18,12 @@ use Rattle.apex_world.proofs.DecidedIds.{parts_decide, caller_ids_decide}
 use Rattle.apex_world.proofs.DecidedPeers.{activation_decides, after_decides, cause_decides, rollback_decides, IsAfter}
 use Rattle.apex_world.proofs.DecidedRollbacks.{undone_decide}
 use Rattle.apex_world.proofs.DecidedTests.{every}
-use Rattle.session_check.specs.declared.marks.Which.{Which}
 use Rattle.session_check.specs.declared.marks.Which.TheVariants.{Unfinished, Available, Activated}
 use Rattle.session_check.specs.declared.marks.Mark.{Mark}
 use Rattle.session_check.specs.Apart.{AreApart}
 use Rattle.session_check.specs.Before.{AreDated}
 use Rattle.session_check.specs.LawfulSessions.{AreLawfulSessions}
 use Rattle.session_check.specs.Sound.{is_sound}
-use Rattle.session_check.specs.Marks.{counts, mark_of, marks_of}
-use Rattle.session_check.proofs.Differing.{AllDiffer}
 use Rattle.session_check.proofs.Earlier.{same_session}
 use Rattle.session_check.proofs.Equal.{marks_differ, differ_marks, numbers_differ, differ_numbers}
 use Rattle.session_check.proofs.Peers.{peers_by_marks, marks_by_peers, own_by_numbers, apart_by_numbers, numbers_by_ids}

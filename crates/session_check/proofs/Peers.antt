@@ -1,7 +1,6 @@
 -- Sessions that share a name, and sessions that share an id, by marks and numbers that differ. Callers want
 -- `peers_by_marks`, `marks_by_peers`, `ids_by_numbers` and `numbers_by_ids`.
 use Rattle.std.proofs.Common.{◌≡◌, ◌≢◌, ℕ, ◌<◌, Bool, true, false, cond, List, [], ◌∷◌, map, flat_map, sym, ap, subst, ◌∙◌, refl, inl, inr, arith}
-use Rattle.std.specs.List.{AllByRecursion}
 use Rattle.std.specs.Str.{bytes_eq}
 use Rattle.std.proofs.lemmas.Slice.Eq.{bytes_eq-Decides}
 use Rattle.apex_base.specs.declared.numbers.SessionId.{SessionId}
@@ -99,19 +98,19 @@ module _ (which : Which) (ss : List Record) where
   marks_by_peers a own none =
       pairs_flat (marks_of which) ss
       (λ r i. differ_if (counts which r) (map (mark_of which r) r.parts) (λ c.
-          differ_mapped (mark_of which r) (λ (p q : Part). p.name ≢ q.name)
-          (λ p q other e.
-              other (sym (mark_name which r p) ∙ ap (λ (m : Mark). m.name) e ∙ mark_name which r q))
-          r.parts (own r i)))
+      differ_mapped (mark_of which r) (λ (p q : Part). p.name ≢ q.name)
+      (λ p q other e.
+      other (sym (mark_name which r p) ∙ ap (λ (m : Mark). m.name) e ∙ mark_name which r q))
+      r.parts (own r i)))
       (by_apart (marks_of which) ss a (λ r s i j differ m k l.
-          let (c, h) = marked_if (counts which r) (map (mark_of which r) r.parts) m k in
-          let (e, t) = marked_if (counts which s) (map (mark_of which s) s.parts) m l in
-          let (p, u, f) = in_map_back (mark_of which r) m r.parts h in
-          let (q, v, g) = in_map_back (mark_of which s) m s.parts t in
-          let same : mark_of which r p ≡ mark_of which s q = f ∙ sym g in
-          let name : q.name ≡ p.name = sym (sym (mark_name which r p) ∙ ap (λ (m : Mark). m.name) same
-          ∙ mark_name which s q) in
-          none r s p.name p q i j differ (named_part p.name r p u refl) (named_part p.name s q v name) c e same))
+      let (c, h) = marked_if (counts which r) (map (mark_of which r) r.parts) m k in
+      let (e, t) = marked_if (counts which s) (map (mark_of which s) s.parts) m l in
+      let (p, u, f) = in_map_back (mark_of which r) m r.parts h in
+      let (q, v, g) = in_map_back (mark_of which s) m s.parts t in
+      let same : mark_of which r p ≡ mark_of which s q = f ∙ sym g in
+      let name : q.name ≡ p.name = sym (sym (mark_name which r p) ∙ ap (λ (m : Mark). m.name) same
+      ∙ mark_name which s q) in
+      none r s p.name p q i j differ (named_part p.name r p u refl) (named_part p.name s q v name) c e same))
 
 -- Ids
 
@@ -144,6 +143,6 @@ module _ (ss : List Record) where
   numbers_by_ids a own none =
       pairs_flat id_numbers ss
       (λ r i. differ_mapped (λ (id : SessionId). id.0) (λ (a b : SessionId). a.0 ≢ b.0) (λ a b other. other) (ids_of r)
-          (own r i))
+      (own r i))
       (by_apart id_numbers ss a (λ r s i j differ n k l.
-          none r s (record { 0 = n }) i j differ (in_number n r k) (in_number n s l)))
+      none r s (record { 0 = n }) i j differ (in_number n r k) (in_number n s l)))

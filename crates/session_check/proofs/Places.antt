@@ -122,12 +122,12 @@ module _ (marks : List Mark) (up : IsSorted mark_cmp marks) (name : List ℕ) wh
         let passes = d.1 (named, omega (arith, least)) in
         sym (in_any (λ (m : Mark). bytes_eq m.name name && nat_lt boot m.boot) m marks among passes)
     later_here m false within here same =
-            sym (not_true (has_later marks name boot) (λ e.
-            let (n, i, f, l) = found_later e in
-            let (k, lt, g) = place_of n marks i in
-            let h = from_place n k lt g f l in
-            let order = in_order marks up next k m h lt in
-            let found : get_or marks k m ≡ n = get_or_default marks k m n lt ∙ g in
-            let above = subst (λ x. is_below name (boot + 1) x ≡ false) (sym here) (p.above next m (omega arith) within) in
-            none_past name (boot + 1) m n (subst (λ x. is_lt (mark_cmp n x) ≡ false) (sym here) (rw found at order)) f above
-            (other_name m.name name same)))
+        sym (not_true (has_later marks name boot) (λ e.
+        let (n, i, f, l) = found_later e in
+        let (k, lt, g) = place_of n marks i in
+        let h = from_place n k lt g f l in
+        let order = in_order marks up next k m h lt in
+        let found : get_or marks k m ≡ n = get_or_default marks k m n lt ∙ g in
+        let above = subst (λ x. is_below name (boot + 1) x ≡ false) (sym here) (p.above next m (omega arith) within) in
+        none_past name (boot + 1) m n (subst (λ x. is_lt (mark_cmp n x) ≡ false) (sym here) (rw found at order)) f above
+        (other_name m.name name same)))

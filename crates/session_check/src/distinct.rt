@@ -8,7 +8,10 @@ use std::alloc::{AllocError, Global};
 use std::collections::BTreeSet;
 
 /// Whether no two of the keys are the same.
-pub(crate) fn are_distinct<K: Ord + Copy + Drop>(alloc: Global, keys: &[K]) -> Result<bool, AllocError>
+pub(crate) fn are_distinct<K: Ord + Copy + Drop>(
+    alloc: Global,
+    keys: &[K],
+) -> Result<bool, AllocError>
     ensures { IfOk result (λ d. Decides d (IsDistinct (eq_by_cmp K.cmp) keys.now)) }
 {
     let set = set_of(alloc, keys)?;

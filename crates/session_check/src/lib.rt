@@ -8,6 +8,8 @@ mod lookup;
 mod marks;
 mod own;
 mod search;
+#[cfg(test)]
+mod tests;
 mod undone;
 
 pub use check::are_lawful;

@@ -24,7 +24,11 @@ pub(crate) enum Which {
 }
 
 /// The marks of these sessions, in order.
-pub(crate) fn sorted_marks(alloc: Global, sessions: &[Record], which: Which) -> Result<Vec<Mark>, AllocError>
+pub(crate) fn sorted_marks(
+    alloc: Global,
+    sessions: &[Record],
+    which: Which,
+) -> Result<Vec<Mark>, AllocError>
     ensures { IfOk result (λ marks. AreMarks which sessions.now marks.items) }
 {
     let mut marks = marks(alloc, sessions, which)?;
@@ -33,7 +37,11 @@ pub(crate) fn sorted_marks(alloc: Global, sessions: &[Record], which: Which) -> 
 }
 
 /// The marks of these sessions.
-pub(crate) fn marks(alloc: Global, sessions: &[Record], which: Which) -> Result<Vec<Mark>, AllocError>
+pub(crate) fn marks(
+    alloc: Global,
+    sessions: &[Record],
+    which: Which,
+) -> Result<Vec<Mark>, AllocError>
     ensures { IfOk result (λ marks. marks.items ≡ flat_map (marks_of which) sessions.now) }
 {
     let mut marks = Vec::new(alloc);

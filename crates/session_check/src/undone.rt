@@ -190,7 +190,9 @@ pub(crate) fn are_undone(sessions: &[Record]) -> bool
         ≡ list_all (λ x. implies (is_committed x.rollback) (undoes_it x.id (session_of sessions.now (rollback_id x.id)))) sessions.now }
 {
     for x in sessions {
-        if is_committed(x.rollback) && !undoes_it(x.id, session_of(sessions, rollback_number(x.id))) {
+        if is_committed(x.rollback)
+            && !undoes_it(x.id, session_of(sessions, rollback_number(x.id)))
+        {
             return false;
         }
     }

@@ -1,4 +1,4 @@
-use Rattle.std.proofs.Common.{◌≡◌, List, Option, Bor, find, ap, sym, ◌∙◌}
+use Rattle.std.proofs.Common.{List, Option, Bor, find, ap, sym, ◌∙◌}
 use Rattle.std.specs.Option.{option_copied}
 use Rattle.std.specs.Str.{bytes_eq}
 use Rattle.apex_base.specs.declared.records.Part.{Part}

@@ -1,5 +1,4 @@
 use Rattle.std.proofs.Common.{◌≡◌, Decides, sym, ◌∙◌}
-use Rattle.std.specs.Prelude.{IfOk}
 use Rattle.std.proofs.lemmas.Bool.{true≢false}
 use Rattle.std.proofs.lemmas.Result.{IfOk-weaker}
 use Rattle.apex_world.specs.Decided.{have_rollback_sessions}

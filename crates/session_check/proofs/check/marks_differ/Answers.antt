@@ -1,4 +1,4 @@
-use Rattle.std.proofs.Common.{◌≡◌, Decides, List, subst, ◌∙◌}
+use Rattle.std.proofs.Common.{Decides, List, subst, ◌∙◌}
 use Rattle.std.specs.List.{IsDistinct}
 use Rattle.std.specs.Ordering.{eq_by_cmp}
 use Rattle.std.specs.Prelude.{IfOk}

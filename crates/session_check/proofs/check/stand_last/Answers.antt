@@ -1,4 +1,4 @@
-use Rattle.std.proofs.Common.{◌≡◌, Bool, Decides, List, ap, subst, sym, ◌∙◌}
+use Rattle.std.proofs.Common.{Bool, Decides, List, ap, subst, sym, ◌∙◌}
 use Rattle.std.specs.List.{list_all}
 use Rattle.session_check.specs.declared.marks.Mark.{Mark}
 use Rattle.session_check.specs.Before.{is_above, StandLast}

@@ -1,7 +1,6 @@
-use Rattle.std.proofs.Common.{◌≡◌, ◌+◌, ◌-◌, ◌/◌, ◌<◌, suc, length, get_or, arith, rules, add-one, sym, subst}
+use Rattle.std.proofs.Common.{◌≡◌, ◌+◌, ◌-◌, ◌/◌, ◌<◌, length, get_or, arith, rules, add-one, subst}
 use Rattle.apex_base.specs.declared.records.Record.{Record}
-use Rattle.session_check.proofs.Lookups.{skipped, is_here, is_past}
-use Rattle.session_check.proofs.Differing.{distinct_differ}
+use Rattle.session_check.proofs.Lookups.{skipped}
 use Rattle.session_check.proofs.lookup.session_of.Goals as goal
 
 pub loop-low-preserved-then-from-number : goal.loop-low-preserved-then-from-number

@@ -1,4 +1,4 @@
-use Rattle.std.proofs.Common.{◌≡◌, ◌++◌, ℕ, take, map}
+use Rattle.std.proofs.Common.{◌≡◌, ◌++◌, take, map}
 use Rattle.apex_base.specs.declared.numbers.SessionId.{SessionId}
 use Rattle.session_check.proofs.marks.add_numbers.Given as goal
 
