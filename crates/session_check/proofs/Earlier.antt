@@ -1,5 +1,6 @@
 -- What a name held before a session, by marks. Callers want `before_none` and `before_some`.
-use Rattle.std.proofs.Common.{◌≡◌, ◌≢◌, ℕ, ◌<◌, ◌&&◌, Bool, true, List, Option, nat_lt, sym, ap, ◌∙◌, refl, inl, inr, arith}
+use Rattle.std.proofs.Common.{◌≡◌, ◌≢◌, ℕ, ◌<◌, ◌&&◌, Bool, true, List, Option, nat_lt, sym, ap, ◌∙◌, refl, inl, inr}
+use Rattle.std.proofs.Common.{arith}
 use Rattle.std.specs.Str.{bytes_eq}
 use Rattle.std.proofs.lemmas.Bool.{cases_eq}
 use Rattle.std.proofs.lemmas.Bool.Decides.{Decides-and, Decides-ltb}
@@ -83,8 +84,9 @@ module _ (ss : List Record) (d : AreDated ss) (marks : List Mark) (a : AreMarks 
             let other : s.activation ≢ 0 = λ zero. some (omega (arith, same_boot, zero)) in
             let same : r ≡ s = elim (cases_eq r.id.0 s.id.0) [
               | inl e ↦ same_session ss d.ascend r s k.among l.2.among e
-              | inr differ ↦ absurd (d.apart r s name k.among l.2.among differ named (names_part name s l.1 l.2.part) some
-                  other same_boot)
+              | inr differ ↦
+                  let also = names_part name s l.1 l.2.part in
+                  absurd (d.apart r s name k.among l.2.among differ named also some other same_boot)
             ] in
             let id : (record { 0 = m.session }) ≡ r.id = λ j. record { 0 = sym number j } in
             ap (λ (id : SessionId). target_in (session_of ss id) name) id

@@ -21,7 +21,8 @@ use Rattle.session_check.proofs.Peers.{part_named, named_part}
 
 -- no mark of a name of the session is of a later boot
 abbrev IsLast : List Mark → Record → Type 0
-IsLast marks r = is_undoable r.state ≡ true → (p : Part) → In p r.parts → (has_later marks p.name r.activation ≡ true) → ⊥
+IsLast marks r = is_undoable r.state ≡ true → (p : Part) → In p r.parts
+    → (has_later marks p.name r.activation ≡ true) → ⊥
 
 last_decides_one : (marks : List Mark) (r : Record) → Decides (is_above marks r) (IsLast marks r)
 last_decides_one marks r =

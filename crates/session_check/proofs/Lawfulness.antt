@@ -1,5 +1,6 @@
 -- Sessions are lawful if and only if they are apart and have their rollback sessions: `dated`, `lawful_decides`.
-use Rattle.std.proofs.Common.{◌≡◌, ◌≢◌, ℕ, Bool, true, false, not, IsTrue, List, is_some, sym, ap, ◌∙◌, refl, inl, inr, Decides, arith}
+use Rattle.std.proofs.Common.{◌≡◌, ◌≢◌, ℕ, Bool, true, false, not, IsTrue, List, is_some, sym, ap, ◌∙◌, refl, inl, inr}
+use Rattle.std.proofs.Common.{Decides, arith}
 use Rattle.std.specs.List.{list_all}
 use Rattle.std.proofs.lemmas.Bool.{cases_eq}
 use Rattle.std.proofs.lemmas.Bool.Decides.{Decides-and, Decides-not, Decides-eqb}
@@ -46,7 +47,8 @@ all_sound : (boots : ℕ) (ss : List Record)
 all_sound boots ss = every (is_sound boots) (Sound boots) ss (λ r i. sound_decides boots r)
 
 all_after : (ss : List Record)
-    → Decides (list_all (λ r. is_after_undone ss r.activation r.kind) ss) ((r : Record) → In r ss → IsAfter ss r.activation r.kind)
+    → Decides (list_all (λ r. is_after_undone ss r.activation r.kind) ss)
+    ((r : Record) → In r ss → IsAfter ss r.activation r.kind)
 all_after ss = every _ (λ r. IsAfter ss r.activation r.kind) ss (λ r i. after_decides ss r.activation r.kind)
 
 -- A session that stands was activated
@@ -118,8 +120,9 @@ module _ (boots : ℕ) (ss : List Record) (a : Ascend ss) where
           callers = λ r id i e k. (sound r i).1.1.1.1 e id k;
         };
         parts = λ r i. (sound r i).0;
-        alone = λ r s name i j differ n m e f. peers_by_marks Unfinished ss (marks_differ _ h.unfinished) r s name i j differ
-            n m e f (λ p q g k. record { name = g k; boot = 0; session = 0 });
+        alone = λ r s name i j differ n m e f.
+            peers_by_marks Unfinished ss (marks_differ _ h.unfinished) r s name i j differ n m e f
+            (λ p q g k. record { name = g k; boot = 0; session = 0 });
         activations = record {
           each = λ r i. (sound r i).1.0;
           peers = λ r s name i j differ n m. record {
@@ -136,8 +139,9 @@ module _ (boots : ℕ) (ss : List Record) (a : Ascend ss) where
         causes = λ r i. (sound r i).1.1.0;
         rollbacks = record {
           each = λ r i. (sound r i).1.1.1.0;
-          peers = λ r s name i j differ n m e f. peers_by_marks Available ss (marks_differ _ h.available) r s name i j differ
-              n m e f (λ p q g k. record { name = g k; boot = 0; session = 0 });
+          peers = λ r s name i j differ n m e f.
+              peers_by_marks Available ss (marks_differ _ h.available) r s name i j differ n m e f
+              (λ p q g k. record { name = g k; boot = 0; session = 0 });
         };
         undone = (undone_decide ss).0 u;
       }
@@ -152,16 +156,18 @@ module _ (boots : ℕ) (ss : List Record) (a : Ascend ss) where
         ));
         after = (all_after ss).1 h.activations.after;
         ids = differ_numbers _ (numbers_by_ids ss a h.ids.distinct h.ids.apart);
-        unfinished = differ_marks _ (marks_by_peers Unfinished ss a own (λ r s name p q i j differ n m e f same. h.alone r s
-            name i j differ n m e f));
-        available = differ_marks _ (marks_by_peers Available ss a own (λ r s name p q i j differ n m e f same.
-            h.rollbacks.peers r s name i j differ n m e f));
-        activated = differ_marks _ (marks_by_peers Activated ss a own (λ r s name p q i j differ n m e f same.
-            (h.activations.peers r s name i j differ n m).apart ((counted r.activation).0 e) ((counted s.activation).0 f)
-            (ap (λ (m : Mark). m.boot) same)));
+        unfinished = differ_marks _ (marks_by_peers Unfinished ss a own
+            (λ r s name p q i j differ n m e f same. h.alone r s name i j differ n m e f));
+        available = differ_marks _ (marks_by_peers Available ss a own
+            (λ r s name p q i j differ n m e f same. h.rollbacks.peers r s name i j differ n m e f));
+        activated = differ_marks _ (marks_by_peers Activated ss a own
+            (λ r s name p q i j differ n m e f same.
+            let apart = (h.activations.peers r s name i j differ n m).apart in
+            apart ((counted r.activation).0 e) ((counted s.activation).0 f) (ap (λ (m : Mark). m.boot) same)));
         last = λ r s name i j n m e f. elim (cases_eq r.id.0 s.id.0) [
           | inl same ↦
-              let one : r.activation ≡ s.activation = ap (λ (r : Record). r.activation) (same_session ss a r s i j same) in
+              let one : r.activation ≡ s.activation =
+              ap (λ (r : Record). r.activation) (same_session ss a r s i j same) in
               omega (arith, one)
           | inr differ ↦
               let below = (h.activations.peers r s name i j differ n m).above e f in

@@ -67,4 +67,5 @@ module _ (which : Which) (ss : List Record) where
 
     pub is_marked_in : (r : Record) (p : Part) → In r ss → counts which r ≡ true → In p r.parts
         → In (mark_of which r p) marks
-    is_marked_in r p i e h = in_permuted (flat_map (marks_of which) ss) marks a.all (mark_of which r p) (is_marked r p i e h)
+    is_marked_in r p i e h =
+        in_permuted (flat_map (marks_of which) ss) marks a.all (mark_of which r p) (is_marked r p i e h)

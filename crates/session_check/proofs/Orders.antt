@@ -1,5 +1,6 @@
 -- Marks in order. Callers want `in_order`, `still_below`, `not_later`, `passed_over` and `none_past`.
-use Rattle.std.proofs.Common.{◌≡◌, ◌≢◌, ℕ, zero, suc, ◌<◌, ◌≤◌, Bool, true, false, List, [], ◌∷◌, length, get_or, nat_lt, sym, ap, subst, ◌∙◌, refl, inl, inr, ◌⊎◌, arith}
+use Rattle.std.proofs.Common.{◌≡◌, ◌≢◌, ℕ, zero, suc, ◌<◌, ◌≤◌, Bool, true, false, List, [], ◌∷◌, length, get_or}
+use Rattle.std.proofs.Common.{nat_lt, sym, ap, subst, ◌∙◌, refl, inl, inr, ◌⊎◌, arith}
 use Rattle.std.proofs.lemmas.Bool.{ltb-true, lt-ltb}
 use Rattle.std.proofs.lemmas.Bool.Decides.{nat_tests}
 use Rattle.std.proofs.lemmas.List.Sorted.{sorted_far, ranks_by}
@@ -44,7 +45,8 @@ mark_total = then_total (on_total (λ (m : Mark). m.name) nat_list_cmp_total)
 -- of two marks in order, the later isn't below the earlier
 pub in_order : (marks : List Mark) → IsSorted mark_cmp marks → (i j : ℕ) (d : Mark) → i ≤ j → j < length marks
     → is_lt (mark_cmp (get_or marks j d) (get_or marks i d)) ≡ false
-in_order marks up i j d le lt = sorted_far (λ m n. is_lt (mark_cmp m n)) (ranks_by mark_total (λ m. m)) marks up i j d le lt
+in_order marks up i j d le lt =
+    sorted_far (λ m n. is_lt (mark_cmp m n)) (ranks_by mark_total (λ m. m)) marks up i j d le lt
 
 -- where the later of two orders is not below, nor is the first
 first_of_two : (o p : Ordering) → is_lt (ordering_then o p) ≡ false → o ≡ Less → ⊥
@@ -63,7 +65,8 @@ no_less a b p e = grind (arith, nat_tests)
 -- two marks of one name, in order
 pub not_later : (m n : Mark) → is_lt (mark_cmp n m) ≡ false → n.name ≡ m.name → m.boot ≤ n.boot
 not_later m n up same =
-    no_less n.boot m.boot _ (second_of_two (names_cmp n.name m.name) _ up (ap (names_cmp n.name) (sym same) ∙ itself n.name))
+    no_less n.boot m.boot _
+    (second_of_two (names_cmp n.name m.name) _ up (ap (names_cmp n.name) (sym same) ∙ itself n.name))
 
 -- Names
 
@@ -102,7 +105,8 @@ still_below name boot m n up b =
 
 -- a mark of the name is below if and only if it is of an earlier boot
 pub below_if : (name : List ℕ) (boot : ℕ) (m : Mark) → m.name ≡ name → is_below name boot m ≡ nat_lt m.boot boot
-below_if name boot m e = ap (λ (o : Ordering). is_below_by o (nat_lt m.boot boot)) (ap (λ a. names_cmp a name) e ∙ itself name)
+below_if name boot m e =
+    ap (λ (o : Ordering). is_below_by o (nat_lt m.boot boot)) (ap (λ a. names_cmp a name) e ∙ itself name)
 
 -- no mark of the name stands before one that is below, and of another name
 pub passed_over : (name : List ℕ) (boot : ℕ) (m n : Mark) → is_lt (mark_cmp n m) ≡ false → m.name ≡ name

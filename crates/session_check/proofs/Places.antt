@@ -1,6 +1,7 @@
 -- What the place of a name and a boot among marks tells. Callers want `is_place`, `none_first`, `none_here`,
 -- `last_here`, `later_here` and `none_later`.
-use Rattle.std.proofs.Common.{◌≡◌, ◌≢◌, ℕ, ◌+◌, ◌-◌, ◌<◌, ◌≤◌, ◌&&◌, Bool, true, false, List, length, get_or, nat_lt, sym, ap, subst, ◌∙◌, refl, inl, inr, arith}
+use Rattle.std.proofs.Common.{◌≡◌, ◌≢◌, ℕ, ◌+◌, ◌-◌, ◌<◌, ◌≤◌, ◌&&◌, Bool, true, false, List, length, get_or, nat_lt}
+use Rattle.std.proofs.Common.{sym, ap, subst, ◌∙◌, refl, inl, inr, arith}
 use Rattle.std.specs.List.Sorted.{IsSorted, IsPartitionedBy}
 use Rattle.std.specs.Str.{bytes_eq}
 use Rattle.std.proofs.lemmas.Bool.{ltb-true, ltb-false, lt-ltb, cases_lt}
@@ -12,7 +13,8 @@ use Rattle.apex_base.specs.Members.{In}
 use Rattle.apex_base.proofs.MemberLemmas.{any_in, in_any}
 use Rattle.session_check.specs.declared.marks.Mark.{Mark}
 use Rattle.session_check.specs.Marks.{mark_cmp, is_below, has_later, IsPlace, NoneBefore, IsLastBefore}
-use Rattle.session_check.proofs.Orders.{place_of, at_place, in_order, still_below, below_if, not_later, passed_over, none_past}
+use Rattle.session_check.proofs.Orders.{place_of, at_place, in_order, still_below, below_if, not_later, passed_over}
+use Rattle.session_check.proofs.Orders.{none_past}
 
 -- what isn't true is false
 pub not_true : (b : Bool) → (b ≡ true → ⊥) → b ≡ false
@@ -61,7 +63,8 @@ module _ (marks : List Mark) (up : IsSorted mark_cmp marks) (name : List ℕ) wh
 
     -- the mark before the place is below
     last_below : (m : Mark) → next ≢ 0 → m ≡ get_or marks (next - 1) m → is_below name boot m ≡ true
-    last_below m some here = subst (λ x. is_below name boot x ≡ true) (sym here) (p.below (next - 1) m (omega (arith, some)))
+    last_below m some here =
+        subst (λ x. is_below name boot x ≡ true) (sym here) (p.below (next - 1) m (omega (arith, some)))
 
     -- the mark before the place is of another name, so there is none before
     pub none_here : (m : Mark) → next ≢ 0 → m ≡ get_or marks (next - 1) m → bytes_eq m.name name ≡ false

@@ -38,5 +38,6 @@ is_above marks r = not (is_undoable r.state) || list_all (λ p. not (has_later m
 
 -- a session that can be undone is not activated before one that stands and shares a name
 abbrev pub StandLast : List Record → Type 0
-StandLast sessions = (r s : Record) (name : List ℕ) → In r sessions → In s sessions → names name r ≡ true → names name s ≡ true
+StandLast sessions = (r s : Record) (name : List ℕ) → In r sessions → In s sessions
+    → names name r ≡ true → names name s ≡ true
     → is_undoable r.state ≡ true → is_standing s.state ≡ true → s.activation ≤ r.activation

@@ -1,9 +1,10 @@
--- What is lawful of sessions by themselves: docs/rows.md, "Lawful worlds". The fields are those of `Lawful` that speak of
--- nothing but sessions and the number of boots.
+-- What is lawful of sessions by themselves: docs/rows.md, "Lawful worlds". The fields are those of `Lawful` that
+-- speak of nothing but sessions and the number of boots.
 use Rattle.std.specs.Prelude.{◌≡◌, ℕ, List, is_some}
 use Rattle.apex_base.specs.declared.records.Record.{Record}
 use Rattle.apex_base.specs.Members.{In}
-use Rattle.apex_world.specs.Lawful.{HaveIds, HasParts, AllPeers, NotBothUnfinished, HaveActivations, has_cause, HaveRollbacks, HaveRollbackSessions}
+use Rattle.apex_world.specs.Lawful.{HaveIds, HasParts, AllPeers, NotBothUnfinished, HaveActivations, has_cause}
+use Rattle.apex_world.specs.Lawful.{HaveRollbacks, HaveRollbackSessions}
 
 pub record AreLawfulSessions (boots : ℕ) (sessions : List Record) : Type 0 where
   pub ids : HaveIds sessions

@@ -1,5 +1,6 @@
 -- Marks of sessions: a name and the boot that activated the session, for each part of a session that counts.
-use Rattle.std.specs.Prelude.{ℕ, ◌≡◌, ◌<◌, ◌≤◌, ◌&&◌, nat_lt, Bool, true, false, not, List, [], map, flat_map, length, slice_index_or, if◌then◌else◌}
+use Rattle.std.specs.Prelude.{ℕ, ◌≡◌, ◌<◌, ◌≤◌, ◌&&◌, nat_lt, Bool, true, false, not, List, [], map, flat_map, length}
+use Rattle.std.specs.Prelude.{slice_index_or, if◌then◌else◌}
 use Rattle.std.specs.Cmp.Lexicographic.{slice_cmp}
 use Rattle.std.specs.List.{list_any}
 use Rattle.std.specs.List.Sorted.{IsPermutation, IsSorted}
@@ -44,7 +45,9 @@ id_numbers r = map (λ id. id.0) (ids_of r)
 
 -- by name, then by boot, then by session
 abbrev pub mark_cmp : Mark → Mark → Ordering
-mark_cmp m n = ordering_then (slice_cmp nat_cmp m.name n.name) (ordering_then (nat_cmp m.boot n.boot) (nat_cmp m.session n.session))
+mark_cmp m n =
+    ordering_then (slice_cmp nat_cmp m.name n.name)
+    (ordering_then (nat_cmp m.boot n.boot) (nat_cmp m.session n.session))
 
 -- the marks of these sessions, in order
 pub record AreMarks (which : Which) (sessions : List Record) (marks : List Mark) : Type 0 where

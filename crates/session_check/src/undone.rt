@@ -6,7 +6,8 @@ ghost use Rattle.std.specs.Option.{option_copied};
 ghost use Rattle.apex_base.specs.Commit.{rollback_id, part_before};
 ghost use Rattle.apex_base.specs.Rollbacks.{is_committed};
 ghost use Rattle.apex_base.specs.Sessions.{session_of, Ascend};
-ghost use Rattle.apex_world.specs.Decided.{implies, is_same_id, is_same_target, is_same_part, is_before_boot, is_after_undone};
+ghost use Rattle.apex_world.specs.Decided.{implies, is_same_id, is_same_target, is_same_part, is_before_boot};
+ghost use Rattle.apex_world.specs.Decided.{is_after_undone};
 ghost use Rattle.apex_world.specs.Decided.{is_rollback_session, has_undone, undoes_it};
 ghost use Rattle.apex_world.specs.Lawful.{is_verified};
 ghost use Rattle.apex_base.specs.declared.records.Target.TheVariants.{Module};
@@ -187,7 +188,8 @@ fn is_module(target: &Target, session: SessionId, part: u32, version: u64) -> bo
 pub(crate) fn are_undone(sessions: &[Record]) -> bool
     requires { Ascend sessions.now }
     ensures { result
-        ≡ list_all (λ x. implies (is_committed x.rollback) (undoes_it x.id (session_of sessions.now (rollback_id x.id)))) sessions.now }
+        ≡ list_all (λ x. implies (is_committed x.rollback)
+        (undoes_it x.id (session_of sessions.now (rollback_id x.id)))) sessions.now }
 {
     for x in sessions {
         if is_committed(x.rollback)

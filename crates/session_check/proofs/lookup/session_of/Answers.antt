@@ -11,7 +11,8 @@ loop-low-preserved-then-from-number c =
     let is : c.from.result ≡ r.id.0 = search rules in
     let within : middle < length ss = omega arith in
     let less : (get_or ss middle r).id.0 < c.args.number =
-    subst (λ (s : Record). s.id.0 < c.args.number) c.index-sessions-middle.is (omega (arith, is, c.if-from-number.true)) in
+    subst (λ (s : Record). s.id.0 < c.args.number) c.index-sessions-middle.is
+    (omega (arith, is, c.if-from-number.true)) in
     record {
       in_order = omega arith;
       within = c.loop-low.invariant.within;

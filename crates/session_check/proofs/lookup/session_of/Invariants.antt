@@ -8,7 +8,8 @@ abbrev pub invariant-loop-low : goal.invariant-loop-low
 invariant-loop-low l = record {
   in_order : l.low ≤ l.high;
   within : l.high ≤ length l.sessions;
-  passed : session_of (drop l.low l.sessions) (record { 0 = l.number }) ≡ session_of l.sessions (record { 0 = l.number });
+  passed : session_of (drop l.low l.sessions) (record { 0 = l.number })
+      ≡ session_of l.sessions (record { 0 = l.number });
   above : (d : Record) → l.high < length l.sessions → l.number ≤ (get_or l.sessions l.high d).id.0;
 }
 

@@ -8,7 +8,8 @@ use Rattle.session_check.proofs.search.has_later.Goals as goal
 
 pub returns-then-next-marks : goal.returns-then-next-marks
 returns-then-next-marks c =
-    let p = subst (λ b. IsPlace c.args.marks.now c.args.name.now (b + 1) c.place-next.result) c.from.ensures c.place-next.ensures in
+    let p = subst (λ b. IsPlace c.args.marks.now c.args.name.now (b + 1) c.place-next.result)
+    c.from.ensures c.place-next.ensures in
     let within : c.place-next.result < length c.args.marks.now = omega arith in
     later_here c.args.marks.now c.requires c.args.name.now c.args.boot c.place-next.result p c.index-marks-next.result
     c.is_same.result within c.index-marks-next.is
@@ -16,6 +17,7 @@ returns-then-next-marks c =
 
 pub returns-else-next-marks : goal.returns-else-next-marks
 returns-else-next-marks c =
-    let p = subst (λ b. IsPlace c.args.marks.now c.args.name.now (b + 1) c.place-next.result) c.from.ensures c.place-next.ensures in
+    let p = subst (λ b. IsPlace c.args.marks.now c.args.name.now (b + 1) c.place-next.result)
+    c.from.ensures c.place-next.ensures in
     let past : nat_lt c.place-next.result (length c.args.marks.now) ≡ false = grind (arith, nat_tests) in
     past ∙ none_later c.args.marks.now c.requires c.args.name.now c.args.boot c.place-next.result p (omega arith)

@@ -10,5 +10,6 @@ use Rattle.session_check.proofs.undone.are_undone.Given as goal
 -- what is left decides
 abbrev pub invariant-loop-x : goal.invariant-loop-x
 invariant-loop-x l =
-    let test : Record → Bool = λ x. implies (is_committed x.rollback) (undoes_it x.id (session_of l.sessions (rollback_id x.id))) in
+    let test : Record → Bool =
+    λ x. implies (is_committed x.rollback) (undoes_it x.id (session_of l.sessions (rollback_id x.id))) in
     list_all test (drop l.x-index l.sessions) ≡ list_all test l.sessions

@@ -7,4 +7,5 @@ use Rattle.session_check.proofs.undone.have_undone.Given as goal
 -- what is left decides
 abbrev pub invariant-loop-r : goal.invariant-loop-r
 invariant-loop-r l =
-    list_all (λ (r : Record). has_undone l.sessions r r.kind) (drop l.r-index l.sessions) ≡ list_all (λ (r : Record). has_undone l.sessions r r.kind) l.sessions
+    list_all (λ (r : Record). has_undone l.sessions r r.kind) (drop l.r-index l.sessions)
+    ≡ list_all (λ (r : Record). has_undone l.sessions r r.kind) l.sessions
