@@ -91,7 +91,7 @@ own_ids_decide r = pairs_decide (λ a b. not (is_same_id a b)) (λ (a b : Sessio
     (λ a b. Decides-not _ (Decides-eqb a.0 b.0)) (ids_of r)
 
 -- the test of the ids that callers give
-caller_ids_decide : (r : Record) → Decides (has_caller_ids r) (undoes r.kind ≡ false → (id : SessionId)
+pub caller_ids_decide : (r : Record) → Decides (has_caller_ids r) (undoes r.kind ≡ false → (id : SessionId)
     → In id (ids_of r) → IsTrue (is_caller_id id))
 caller_ids_decide r =
     let d = every is_caller_id (λ id. IsTrue (is_caller_id id)) (ids_of r) (λ id h. itself (is_caller_id id)) in

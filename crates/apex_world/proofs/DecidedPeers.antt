@@ -87,7 +87,7 @@ both_decide a b =
 -- Activation boots
 
 -- the test of one activation boot decides it
-activation_decides : (boots : ℕ) (r : Record) → Decides (has_activation boots r) (HasActivation boots r)
+pub activation_decides : (boots : ℕ) (r : Record) → Decides (has_activation boots r) (HasActivation boots r)
 activation_decides boots r =
     let d = Decides-and _ _ (if_decides (never_activated r.state) _ _ (Decides-eqb r.activation 0)
     (Decides-not _ (Decides-eqb r.activation 0))) (at_most r.activation boots) in (
@@ -108,7 +108,7 @@ activated_apart_decides r s =
     )
 
 -- what a rollback session's activation has to be
-abbrev IsAfter : List Record → ℕ → Kind → Type 0
+abbrev pub IsAfter : List Record → ℕ → Kind → Type 0
 IsAfter ss boot kind = (x : SessionId) (s : Record) → kind ≡ RollbackOf x → session_of ss x ≡ Some s → boot ≢ 0
     → s.activation < boot
 
@@ -124,7 +124,7 @@ of_before : (boot : ℕ) (o : Option Record) (s : Record) → o ≡ Some s → i
 of_before boot o s e b = ltb-true s.activation boot (ap (is_before_boot boot) (sym e) ∙ b)
 
 -- the test of a rollback session decides that it was activated after the other
-after_decides : (ss : List Record) (boot : ℕ) (kind : Kind)
+pub after_decides : (ss : List Record) (boot : ℕ) (kind : Kind)
     → Decides (is_after_undone ss boot kind) (IsAfter ss boot kind)
 after_decides ss boot Plain = (λ e x s k. absurd (cc), λ h. refl)
 after_decides ss boot WithRollback = (λ e x s k. absurd (cc), λ h. refl)
@@ -168,7 +168,7 @@ none_is None = (λ e. refl, λ e. refl)
 none_is (Some x) = (λ e. absurd (cc), λ e. absurd (cc))
 
 -- the test of one rollback decides it
-rollback_decides : (r : Record) → Decides (has_rollback r) (HasRollback r)
+pub rollback_decides : (r : Record) → Decides (has_rollback r) (HasRollback r)
 rollback_decides r =
     let d = Decides-and _ _ (there_decides (rolls_back r.kind) r.rollback)
     (Decides-and _ _ (implies_decides _ _ (itself (is_enabling r.rollback))

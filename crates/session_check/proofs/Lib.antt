@@ -1,0 +1,10 @@
+pub mod Differing
+pub mod Earlier
+pub mod Equal
+pub mod Last
+pub mod Lawfulness
+pub mod Lookups
+pub mod Marked
+pub mod Orders
+pub mod Peers
+pub mod Places
