@@ -1,0 +1,2 @@
+mod OpenedRecords
+mod OpenedWorld

@@ -1,0 +1,10 @@
+pub mod Fronts
+pub mod Lengths
+pub mod Loop
+pub mod Parts
+pub mod Pushes
+pub mod Steps
+pub mod Texts
+pub mod Took
+pub mod TookFields
+pub mod TookRecords

@@ -1,0 +1,4 @@
+pub mod Front
+pub mod Pushed
+pub mod Room
+pub mod Units

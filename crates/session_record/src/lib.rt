@@ -1,0 +1,17 @@
+//! A session's record as bytes: `docs/rows.md`, "A record".
+#![tactic(auto)]
+
+mod decode;
+mod encode;
+mod fields;
+mod front;
+mod length;
+mod reading;
+#[cfg(test)]
+mod tests;
+mod units;
+mod writing;
+
+pub use apex_base::{Move, Record, State, moved};
+pub use decode::decode_record;
+pub use encode::encode_record;
