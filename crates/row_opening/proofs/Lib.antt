@@ -1,2 +1,6 @@
+mod KeysRead
 mod OpenedRecords
+mod OpenedValues
 mod OpenedWorld
+mod RightNames
+mod RightRecords

@@ -1,1 +1,2 @@
 pub mod BadRows
+pub mod RightRows

@@ -3,4 +3,4 @@
 
 mod laws;
 
-pub use laws::opened_rows_are_those_of_keys;
+pub use laws::scratch_laws;
