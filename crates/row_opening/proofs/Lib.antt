@@ -2,5 +2,6 @@ mod KeysRead
 mod OpenedRecords
 mod OpenedValues
 mod OpenedWorld
+mod RightBoots
 mod RightNames
 mod RightRecords

@@ -10,5 +10,6 @@ pub fn scratch_laws()
     ensures a { (m : RowMap) (scale : Scale) (rest value : List ℕ) → fin.get m (6 ∷ rest) ≡ Some value → is_value (fin.get (opened_rows m scale) (6 ∷ rest)) value ≡ is_data_row rest }
     ensures b { (m : RowMap) (scale : Scale) (rest value : List ℕ) → fin.get m (9 ∷ rest) ≡ Some value → ((i : ℕ) → get_or value i 0 < 256) → is_value (fin.get (opened_rows m scale) (9 ∷ rest)) value ≡ is_watch_row rest value }
     ensures d { (m : RowMap) (scale : Scale) (rest value : List ℕ) → fin.get m (2 ∷ rest) ≡ Some value → ((i : ℕ) → get_or rest i 0 < 256) → ((i : ℕ) → get_or value i 0 < 256) → is_value (fin.get (opened_rows m scale) (2 ∷ rest)) value ≡ is_record_row rest value }
+    ensures g { (m : RowMap) (scale : Scale) (rest value : List ℕ) → fin.get m (1 ∷ rest) ≡ Some value → ((i : ℕ) → get_or value i 0 < 256) → is_value (fin.get (opened_rows m scale) (1 ∷ rest)) value ≡ is_boots_row rest value }
 {
 }

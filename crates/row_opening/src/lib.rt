@@ -2,5 +2,10 @@
 #![tactic(auto)]
 
 mod laws;
+mod reading;
+mod rows;
+mod sessions;
 
 pub use laws::scratch_laws;
+pub use rows::{is_data_row, is_watch_row};
+pub use sessions::sessions_in;

@@ -1,0 +1,31 @@
+//! The sessions that rows open to.
+ghost use Rattle.std.specs.Prelude.{◌≡◌, IfOk};
+ghost use Rattle.std.specs.FinMap as fin;
+ghost use Rattle.row_opening.specs.RowSessions.{sessions_in, record_in_entry};
+
+use crate::rows::record_in_row;
+use apex_base::Record;
+use row_map::Rows;
+use std::alloc::{AllocError, Global};
+
+fn record_in_entry(alloc: Global, key: &[u8], value: &[u8]) -> Result<Option<Record>, AllocError>
+    ensures { IfOk result (λ found. found ≡ record_in_entry key.now value.now) }
+{
+    match key {
+        [2, rest @ ..] => record_in_row(alloc, rest, value),
+        _ => Ok(None),
+    }
+}
+
+/// The sessions that the rows of tag 2 spell, in the order of their keys.
+pub fn sessions_in(alloc: Global, rows: &Rows) -> Result<Vec<Record>, AllocError>
+    ensures { IfOk result (λ found. found.items ≡ sessions_in (fin.entries rows.now)) }
+{
+    let mut sessions = Vec::new(alloc);
+    for (key, value) in rows.by_key() {
+        if let Some(found) = record_in_entry(alloc, key.as_slice(), value.as_slice())? {
+            sessions.push(found)?;
+        }
+    }
+    Ok(sessions)
+}
