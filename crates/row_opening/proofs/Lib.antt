@@ -5,3 +5,4 @@ mod OpenedWorld
 mod RightBoots
 mod RightNames
 mod RightRecords
+mod SessionSteps

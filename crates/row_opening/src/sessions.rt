@@ -1,6 +1,7 @@
 //! The sessions that rows open to.
-ghost use Rattle.std.specs.Prelude.{◌≡◌, IfOk};
+ghost use Rattle.std.specs.Prelude.{◌≡◌, IfOk, OnOk};
 ghost use Rattle.std.specs.FinMap as fin;
+ghost use Rattle.row_opening.specs.RowBytes.{FitRow, FitRows};
 ghost use Rattle.row_opening.specs.RowSessions.{sessions_in, record_in_entry};
 
 use crate::rows::record_in_row;
@@ -9,7 +10,8 @@ use row_map::Rows;
 use std::alloc::{AllocError, Global};
 
 fn record_in_entry(alloc: Global, key: &[u8], value: &[u8]) -> Result<Option<Record>, AllocError>
-    ensures { IfOk result (λ found. found ≡ record_in_entry key.now value.now) }
+    ensures found { IfOk result (λ found. found ≡ record_in_entry key.now value.now) }
+    ensures fits { FitRow (key.now, value.now) }
 {
     match key {
         [2, rest @ ..] => record_in_row(alloc, rest, value),
@@ -19,7 +21,8 @@ fn record_in_entry(alloc: Global, key: &[u8], value: &[u8]) -> Result<Option<Rec
 
 /// The sessions that the rows of tag 2 spell, in the order of their keys.
 pub fn sessions_in(alloc: Global, rows: &Rows) -> Result<Vec<Record>, AllocError>
-    ensures { IfOk result (λ found. found.items ≡ sessions_in (fin.entries rows.now)) }
+    ensures found { IfOk result (λ found. found.items ≡ sessions_in (fin.entries rows.now)) }
+    ensures fit { OnOk result (FitRows (fin.entries rows.now)) }
 {
     let mut sessions = Vec::new(alloc);
     for (key, value) in rows.by_key() {
