@@ -1,3 +1,4 @@
+mod KeyOrder
 mod KeysRead
 mod OpenedRecords
 mod OpenedValues
@@ -5,4 +6,5 @@ mod OpenedWorld
 mod RightBoots
 mod RightNames
 mod RightRecords
+mod SessionLists
 mod SessionSteps

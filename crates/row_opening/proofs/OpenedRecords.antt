@@ -33,7 +33,7 @@ end_holds : {X : Type 0} (x : X) (rest : List ℕ) (Q : X → Type 0) → Q x �
 end_holds x [] Q h = h
 end_holds x (b ∷ rest) Q h = tt
 
-read_id : (id : SessionId) (bytes : List ℕ) → IfSome (record_of id bytes) (λ r. r.id ≡ id)
+pub read_id : (id : SessionId) (bytes : List ℕ) → IfSome (record_of id bytes) (λ r. r.id ≡ id)
 unfolding record_of
 read_id id bytes =
     any_holds (state_at bytes) _ _ (λ phase. any_holds (kind_at phase.1) _ _ (λ kind.
@@ -137,7 +137,7 @@ module _ (m : RowMap) where
   pub session_id : (r : Record) → In r (opened_sessions m) → r.id.0 < 2 ^ 32
   session_id r h = (is_record_in r.id r (session_row r h)).0
 
-  session_there : (id : SessionId) (r : Record) → record_in m id ≡ Some r → In r (opened_sessions m)
+  pub session_there : (id : SessionId) (r : Record) → record_in m id ≡ Some r → In r (opened_sessions m)
   session_there id r e =
       let (l, same, bytes, f, g) = is_record_in id r e in
       comes (ids_in m) [] id r (sought id bytes l f) e
