@@ -1,5 +1,7 @@
+mod AloneRows
 mod KeyOrder
 mod KeysRead
+mod MomentSteps
 mod OpenedRecords
 mod OpenedValues
 mod OpenedWorld

@@ -24,12 +24,12 @@ use Rattle.apex_world.proofs.WorldRows.{same_id}
 
 -- What is read has the id that it is read for
 
-any_holds : {A B : Type 0} (o : Option A) (f : A → Option B) (Q : B → Type 0) → ((x : A) → IfSome (f x) Q)
+pub any_holds : {A B : Type 0} (o : Option A) (f : A → Option B) (Q : B → Type 0) → ((x : A) → IfSome (f x) Q)
     → IfSome (o >>= f) Q
 any_holds None f Q all = tt
 any_holds (Some x) f Q all = all x
 
-end_holds : {X : Type 0} (x : X) (rest : List ℕ) (Q : X → Type 0) → Q x → IfSome (at_end x rest) Q
+pub end_holds : {X : Type 0} (x : X) (rest : List ℕ) (Q : X → Type 0) → Q x → IfSome (at_end x rest) Q
 end_holds x [] Q h = h
 end_holds x (b ∷ rest) Q h = tt
 

@@ -53,7 +53,7 @@ boots_took bytes fits =
 
 -- The row that boots make
 
-abbrev boots_again : ℕ × List ℕ → Option (List ℕ)
+abbrev pub boots_again : ℕ × List ℕ → Option (List ℕ)
 boots_again b = cond (eqb b.0 0) None (Some (boots_text b.0 (last_five b.1)))
 
 few_five : (ms : List ℕ) → length ms ≤ 5 → last_five ms ≡ ms
@@ -96,7 +96,7 @@ module _ (m : RowMap) (scale : Scale) where
   boots_count = length-map-range_with_len (λ (b : ℕ). era_of m (activated_at b (opened_sessions m))) 1
       (opened_boots m).0
 
-  row_again : boots_row (opened m scale) ≡ boots_again (opened_boots m)
+  pub row_again : boots_row (opened m scale) ≡ boots_again (opened_boots m)
   row_again = ap (λ (n : ℕ). cond {A = Option (List ℕ)} (eqb n 0) None
       (Some (boots_text n (last_five (opened_boots m).1)))) boots_count
 

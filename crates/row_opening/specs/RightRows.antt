@@ -1,13 +1,15 @@
 -- Which rows stand in the rows of the world that they open to, tag by tag: docs/rows.md. A key is given without its tag.
-use Rattle.std.specs.Prelude.{ℕ, ◌==◌, ◌&&◌, Bool, true, false, not, is_some, nat_le, List, [], ◌∷◌, length, Option, Some, None}
+use Rattle.std.specs.Prelude.{◌≡◌, ℕ, ◌≢◌, if◌then◌else◌, ◌==◌, ◌&&◌, Bool, true, false, not, is_some, nat_le, List, [], ◌∷◌, length, Option, Some, None}
 use Rattle.std.specs.Int.{w32}
 use Rattle.std.specs.Str.{bytes_eq}
 use Rattle.apex_base.specs.declared.records.Record.{Record}
 use Rattle.apex_base.specs.Keys.{id_of}
+use Rattle.apex_base.specs.Members.{In}
 use Rattle.apex_base.specs.Reading.{◌>>=◌, number_at, short_at, at_end}
 use Rattle.apex_base.specs.Spelling.{record_of}
 use Rattle.apex_base.specs.Text.{is_name}
 use Rattle.apex_world.specs.Opened.{boots_of, end_of}
+use Rattle.row_opening.specs.RowBytes.{FitRow}
 
 -- there is a value, and it is this
 abbrev pub is_value : Option (List ℕ) → List ℕ → Bool
@@ -47,3 +49,32 @@ is_data_row key = are_names (short_at key)
 -- and the value is a watch's end
 abbrev pub is_watch_row : List ℕ → List ℕ → Bool
 is_watch_row key value = are_names (short_at key) && is_some (end_of value)
+
+-- Rows of the tags that stand for themselves: whether one is right is read off its key and its value
+
+abbrev pub StandsAlone : ℕ → Type 0
+StandsAlone tag = (tag ≢ 3) × (tag ≢ 4) × (tag ≢ 5) × (tag ≢ 7) × (tag ≢ 8)
+
+abbrev pub is_right_row : ℕ → List ℕ → List ℕ → Bool
+is_right_row tag key value =
+    if tag == 1 then is_boots_row key value
+    else (if tag == 2 then is_record_row key value
+    else (if tag == 6 then is_data_row key
+    else (if tag == 9 then is_watch_row key value
+    else false)))
+
+-- the row is of another tag, or it is right
+abbrev pub is_right_at : ℕ → List ℕ → List ℕ → Bool
+is_right_at tag [] value = true
+is_right_at tag (first ∷ key) value = if first == tag then is_right_row tag key value else true
+
+abbrev pub are_right_at : ℕ → List (List ℕ × List ℕ) → Bool
+are_right_at tag [] = true
+are_right_at tag (row ∷ rows) = is_right_at tag row.0 row.1 && are_right_at tag rows
+
+-- a row of this tag that isn't right
+pub record WrongRow (tag : ℕ) (rows : List (List ℕ × List ℕ)) : Type 0 where
+  pub row : List ℕ × List ℕ
+  pub member : In row rows
+  pub fits : FitRow row
+  pub wrong : is_right_at tag row.0 row.1 ≡ false

@@ -1,6 +1,8 @@
 //! The world that rows open to, and the least tag at which rows aren't those of a world: `docs/rows.md`, "Opening".
 #![tactic(auto)]
 
+mod alone;
+mod boots;
 mod laws;
 mod reading;
 mod rows;

@@ -1,5 +1,5 @@
-use Rattle.row_opening.proofs.SessionLists.{sessions_same}
+use Rattle.row_opening.proofs.AloneRows.{agrees}
 use Rattle.row_opening.proofs.laws.scratch_laws.Goals as goal
 
 pub returns : goal.returns
-returns c = sessions_same
+returns c = agrees
