@@ -39,8 +39,8 @@ fn is_right_at(alloc: Global, tag: u8, key: &[u8], value: &[u8]) -> Result<bool,
 
 /// Whether each row of this tag is right.
 fn are_right_at(alloc: Global, tag: u8, rows: &Rows) -> Result<bool, AllocError>
-    ensures right { IfOk result (λ right. right ≡ true → are_right_at tag (fin.entries rows.now) ≡ true) }
-    ensures fit { IfOk result (λ right. right ≡ true → FitRows (fin.entries rows.now)) }
+    ensures right { IfOk result (λ right. right ≡ true
+        → FitRows (fin.entries rows.now) × (are_right_at tag (fin.entries rows.now) ≡ true)) }
     ensures wrong { IfOk result (λ right. right ≡ false → WrongRow tag (fin.entries rows.now)) }
 {
     for (key, value) in rows.by_key() {

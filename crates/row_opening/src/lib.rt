@@ -8,6 +8,7 @@ mod reading;
 mod rows;
 mod sessions;
 
+pub use alone::is_right_alone;
 pub use laws::scratch_laws;
 pub use rows::{is_data_row, is_watch_row};
 pub use sessions::sessions_in;
