@@ -1,6 +1,7 @@
 mod AloneRows
 mod KeyOrder
 mod KeysRead
+mod MomentLists
 mod MomentSteps
 mod OpenedRecords
 mod OpenedValues

@@ -3,12 +3,10 @@
 
 mod alone;
 mod boots;
-mod laws;
 mod reading;
 mod rows;
 mod sessions;
 
+pub use boots::{Boots, opened_boots};
 pub use alone::is_right_alone;
-pub use laws::scratch_laws;
-pub use rows::{is_data_row, is_watch_row};
-pub use sessions::sessions_in;
+pub use sessions::opened_sessions;

@@ -1,6 +1,7 @@
 //! The sessions that rows open to.
-ghost use Rattle.std.specs.Prelude.{◌≡◌, IfOk, OnOk};
+ghost use Rattle.std.specs.Prelude.{◌≡◌, IfOk};
 ghost use Rattle.std.specs.FinMap as fin;
+ghost use Rattle.apex_world.specs.Opened.{opened_sessions};
 ghost use Rattle.row_opening.specs.RowBytes.{FitRow, FitRows};
 ghost use Rattle.row_opening.specs.RowSessions.{sessions_in, record_in_entry};
 
@@ -20,9 +21,9 @@ fn record_in_entry(alloc: Global, key: &[u8], value: &[u8]) -> Result<Option<Rec
 }
 
 /// The sessions that the rows of tag 2 spell, in the order of their keys.
-pub fn sessions_in(alloc: Global, rows: &Rows) -> Result<Vec<Record>, AllocError>
-    ensures found { IfOk result (λ found. found.items ≡ sessions_in (fin.entries rows.now)) }
-    ensures fit { OnOk result (FitRows (fin.entries rows.now)) }
+fn sessions_in(alloc: Global, rows: &Rows) -> Result<Vec<Record>, AllocError>
+    ensures { IfOk result (λ found. (found.items ≡ sessions_in (fin.entries rows.now))
+        × FitRows (fin.entries rows.now)) }
 {
     let mut sessions = Vec::new(alloc);
     for (key, value) in rows.by_key() {
@@ -31,4 +32,11 @@ pub fn sessions_in(alloc: Global, rows: &Rows) -> Result<Vec<Record>, AllocError
         }
     }
     Ok(sessions)
+}
+
+/// The sessions of the world that the rows open to, ascending by id.
+pub fn opened_sessions(alloc: Global, rows: &Rows) -> Result<Vec<Record>, AllocError>
+    ensures { IfOk result (λ found. found.items ≡ opened_sessions rows.now) }
+{
+    sessions_in(alloc, rows)
 }
