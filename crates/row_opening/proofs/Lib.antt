@@ -3,6 +3,7 @@ mod KeyOrder
 mod KeysRead
 mod MomentLists
 mod MomentSteps
+mod NameRows
 mod OpenedRecords
 mod OpenedValues
 mod OpenedWorld

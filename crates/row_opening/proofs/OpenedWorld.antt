@@ -1,5 +1,5 @@
 -- What the rows of the world that rows open to have at each key. Callers want `opened_row` and `opened_found`.
-use Rattle.std.proofs.Common.{◌≡◌, ℕ, ◌<◌, ◌^◌, Bool, true, false, cond, eqb, ◌&&◌, List, [], ◌∷◌, Option, Some, sym, ap}
+use Rattle.std.proofs.Common.{◌≡◌, ℕ, ◌<◌, ◌^◌, Bool, true, false, cond, eqb, ◌&&◌, List, [], ◌∷◌, Some, sym, ap}
 use Rattle.std.proofs.Common.{◌∙◌, refl, inl, inr, flat_map, arith}
 use Rattle.std.specs.FinMap as fin
 use Rattle.std.proofs.lemmas.Bool.{and_parts, eqb-true}
@@ -17,7 +17,6 @@ use Rattle.apex_base.proofs.RowMaps.{AreKeys, rows_at, rows_found}
 use Rattle.apex_world.specs.declared.world.Submission.{Submission}
 use Rattle.apex_world.specs.Opened.{opened_files, opened_module, opened_modules, opened_sessions, opened}
 use Rattle.apex_world.specs.Rows.{row_at, row_keys, rows}
-use Rattle.apex_world.specs.World.{World}
 use Rattle.apex_world.proofs.WorldRows.{wide_keys}
 use Rattle.row_opening.proofs.OpenedRecords.{session_id}
 

@@ -1,12 +1,16 @@
-//! The world that rows open to, and the least tag at which rows aren't those of a world: `docs/rows.md`, "Opening".
+//! The world that rows open to, and the tags at which rows aren't those of that world: `docs/rows.md`, "Opening".
 #![tactic(auto)]
 
 mod alone;
 mod boots;
+mod laws;
 mod reading;
 mod rows;
 mod sessions;
+#[cfg(test)]
+mod tests;
 
-pub use boots::{Boots, opened_boots};
 pub use alone::is_right_alone;
+pub use boots::{Boots, opened_boots};
+pub use laws::names_have_what_sessions_give;
 pub use sessions::opened_sessions;

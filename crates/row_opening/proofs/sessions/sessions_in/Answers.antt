@@ -19,8 +19,7 @@ loop-key-preserved-in-Continue-branch-3 c =
     let fits : FitRows ((key, value) ∷ shown c.next.new.self) → FitRows (fin.entries c.args.rows.now) =
     rw step at c.loop-key.invariant.1 in
     let fit : FitRow (key, value) =
-    rw (← c.as_slice.ensures.value, ← c.as_slice-in-loop-key.ensures) c.in_ok-found.ensures.fits in
-    (
+    rw (← c.as_slice.ensures.value, ← c.as_slice-in-loop-key.ensures) c.in_ok-found.ensures.fits in (
       rw c.in_ok-push.ensures.items (one_pushed c.loop-key.sessions.items all key value (shown c.next.new.self)
           c.in-Some-2.found found before),
       λ rest. fits (fit, rest),
