@@ -1,5 +1,6 @@
 -- Rows of the tags that stand for themselves. Callers want `alone_right`, `alone_there`, `agrees` and `differs`.
-use Rattle.std.proofs.Common.{◌≡◌, ◌≢◌, ℕ, suc, Bool, true, false, cond, eqb, ◌&&◌, List, [], ◌∷◌, Option, Some, None, sym, ap}
+use Rattle.std.proofs.Common.{◌≡◌, ◌≢◌, ℕ, suc, Bool, true, false, cond, eqb, ◌&&◌, List, [], ◌∷◌, Option, Some, None}
+use Rattle.std.proofs.Common.{sym, ap}
 use Rattle.std.proofs.Common.{subst, ◌∙◌, refl, inl, inr}
 use Rattle.std.specs.Prelude.{option_and_then}
 use Rattle.std.specs.Option.{option_map}
@@ -9,7 +10,8 @@ use Rattle.std.proofs.lemmas.Bool.{and_parts, cases_eq, ne_eqb, eq-eqb, eqb-true
 use Rattle.std.proofs.lemmas.Slice.Eq.{bytes_eq-Decides}
 use Rattle.apex_base.specs.declared.numbers.Scale.{Scale}
 use Rattle.apex_base.specs.declared.records.Record.{Record}
-use Rattle.apex_base.specs.Keys.{Key, Boots, RecordOf, ActiveOf, BackupOf, FileOf, DataOf, SnapshotOf, PreRestoreOf, WatchOf}
+use Rattle.apex_base.specs.Keys.{Key, Boots, RecordOf, ActiveOf, BackupOf, FileOf, DataOf, SnapshotOf, PreRestoreOf}
+use Rattle.apex_base.specs.Keys.{WatchOf}
 use Rattle.apex_base.specs.Keys.{IsKey, RowMap, key_text, key_of, data_front, watch_front}
 use Rattle.apex_base.specs.Members.{In}
 use Rattle.apex_base.specs.Reading.{eight_text}
@@ -20,7 +22,8 @@ use Rattle.apex_base.specs.Text.{is_name}
 use Rattle.apex_base.proofs.Finding.{some_if, some_of, some_then}
 use Rattle.apex_base.proofs.MemberLemmas.{each_in}
 use Rattle.apex_base.proofs.RowMaps.{entry_get, in_entries}
-use Rattle.apex_world.specs.Opened.{opened, boots_of, boots_or_none, opened_boots, opened_sessions, opened_contents, opened_watches, end_of, end_in, value_in}
+use Rattle.apex_world.specs.Opened.{opened, boots_of, boots_or_none, opened_boots, opened_sessions, opened_contents}
+use Rattle.apex_world.specs.Opened.{opened_watches, end_of, end_in, value_in}
 use Rattle.apex_world.specs.Rows.{row_at}
 use Rattle.row_opening.specs.BadRows.{opened_rows, AgreesAt, DiffersAt}
 use Rattle.row_opening.specs.RightRows.{is_value, is_boots_row, is_record_row, is_data_row, is_watch_row, StandsAlone}
@@ -38,7 +41,8 @@ abbrev Entry : Type 0
 Entry = List ℕ × List ℕ
 
 -- no key begins with another tag
-no_key : (tag : ℕ) (rest : List ℕ) → StandsAlone tag → tag ≢ 1 → tag ≢ 2 → tag ≢ 6 → tag ≢ 9 → key_of (tag ∷ rest) ≡ None
+no_key : (tag : ℕ) (rest : List ℕ) → StandsAlone tag → tag ≢ 1 → tag ≢ 2 → tag ≢ 6 → tag ≢ 9
+    → key_of (tag ∷ rest) ≡ None
 unfolding key_of
 no_key tag rest alone a b c d = rw (
   ne_eqb tag 1 a,

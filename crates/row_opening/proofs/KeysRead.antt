@@ -1,6 +1,7 @@
 -- The rows of the world that rows open to, by what is read from a key. Callers want `no_key_row`, `key_row`, `short_is`
 -- and `same_value`.
-use Rattle.std.proofs.Common.{◌≡◌, ℕ, ◌≤◌, Bool, true, false, cond, ◌&&◌, ltb, List, [], ◌∷◌, ◌++◌, length, take, drop, Option}
+use Rattle.std.proofs.Common.{◌≡◌, ℕ, ◌≤◌, Bool, true, false, cond, ◌&&◌, ltb, List, [], ◌∷◌, ◌++◌, length, take}
+use Rattle.std.proofs.Common.{drop, Option}
 use Rattle.std.proofs.Common.{Some, None, sym, ap, ◌∙◌, refl, arith}
 use Rattle.std.specs.Str.{bytes_eq}
 use Rattle.std.specs.FinMap as fin
@@ -50,7 +51,8 @@ short_if false n bytes name rest e f =
     let name_is : take n bytes ≡ name = ap (λ (p : List ℕ × List ℕ). p.0) parts in
     let rest_is : drop n bytes ≡ rest = ap (λ (p : List ℕ × List ℕ). p.1) parts in
     let long : n ≤ length bytes = ltb-false (length bytes) n e in
-    let count : n ≡ length name = omega (arith, length-take n bytes, long, ap (λ (xs : List ℕ). length xs) name_is) in
+    let taken : length (take n bytes) ≡ length name = ap (λ (xs : List ℕ). length xs) name_is in
+    let count : n ≡ length name = omega (arith, length-take n bytes, long, taken) in
     ap (λ (k : ℕ). k ∷ bytes) count
     ∙ ap (λ (xs : List ℕ). length name ∷ xs) (sym (take-append-drop n bytes)
     ∙ ap (λ (xs : List ℕ). xs ++ drop n bytes) name_is ∙ ap (λ (xs : List ℕ). name ++ xs) rest_is)

@@ -1,5 +1,6 @@
 -- Reading moments one after the other, and the row of boots by its parts.
-use Rattle.std.proofs.Common.{◌≡◌, ℕ, zero, suc, ◌-◌, ◌+◌, ◌≤◌, ◌<◌, Bool, true, false, eqb, leb, not, ◌&&◌, List, [], ◌∷◌, length}
+use Rattle.std.proofs.Common.{◌≡◌, ℕ, zero, suc, ◌-◌, ◌+◌, ◌≤◌, ◌<◌, Bool, true, false, eqb, leb, not, ◌&&◌, List, []}
+use Rattle.std.proofs.Common.{◌∷◌, length}
 use Rattle.std.proofs.Common.{Option, Some, None, refl, sym, ap, subst, ◌∙◌, arith}
 use Rattle.std.specs.Prelude.{IfSome}
 use Rattle.std.specs.Int.{w32}
@@ -49,7 +50,8 @@ none_left count i bytes total le so_far =
 moments_count : (n : ℕ) (bytes : List ℕ) → IfSome (moments_at n bytes) (λ ms. length ms ≡ n)
 unfolding moments_at
 moments_count zero bytes = end_holds [] bytes (λ ms. length ms ≡ 0) refl
-moments_count (suc n) bytes = any_holds (moment_at bytes) _ _ (λ x. counted (moments_at n x.1) x.0 (moments_count n x.1))
+moments_count (suc n) bytes =
+    any_holds (moment_at bytes) _ _ (λ x. counted (moments_at n x.1) x.0 (moments_count n x.1))
   where
     counted : (o : Option (List ℕ)) (m : ℕ) → IfSome o (λ ms. length ms ≡ n)
         → IfSome (o >>= λ ms. Some (m ∷ ms)) (λ ms. length ms ≡ suc n)
@@ -84,7 +86,8 @@ boots_test : (value : List ℕ) (n : ℕ) (rest : List ℕ) (count : ℕ) (after
     → number_at w32 value ≡ Some (n, rest) → byte_at rest ≡ Some (count, after)
     → are_boots (boots_of value) ≡ ((not (eqb n 0) && leb count 5) && is_some (moments_at count after))
 unfolding boots_of
-boots_test value n rest count after e f = rw (e, f) (are_counted n count (moments_at count after) (moments_count count after))
+boots_test value n rest count after e f =
+    rw (e, f) (are_counted n count (moments_at count after) (moments_count count after))
 
 pub boots_then : (value : List ℕ) (n : ℕ) (rest : List ℕ) (count : ℕ) (after : List ℕ)
     → number_at w32 value ≡ Some (n, rest) → byte_at rest ≡ Some (count, after)

@@ -1,6 +1,7 @@
 -- The session of an id, among those that rows open to, is what its row spells. Callers want `session_in`,
 -- `sessions_ascend`, `is_record_in` and `session_id`.
-use Rattle.std.proofs.Common.{◌≡◌, ℕ, ◌<◌, ◌^◌, ltb, List, [], ◌∷◌, Option, Some, None, sym, ap, subst, ◌∙◌, refl, inl}
+use Rattle.std.proofs.Common.{◌≡◌, ℕ, ◌<◌, ◌^◌, ltb, List, [], ◌∷◌, Option, Some, None, sym, ap, subst, ◌∙◌, refl}
+use Rattle.std.proofs.Common.{inl}
 use Rattle.std.proofs.Common.{inr, drop}
 use Rattle.std.specs.Prelude.{fold, option_and_then, IfSome}
 use Rattle.std.specs.Int.{w32, from_be_bytes}

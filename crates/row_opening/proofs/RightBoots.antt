@@ -1,5 +1,6 @@
 -- The row of boots is right if and only if its test holds. Callers want `boots_right` and `boots_took`.
-use Rattle.std.proofs.Common.{◌≡◌, ℕ, zero, suc, ◌-◌, ◌≤◌, Bool, true, false, cond, eqb, leb, not, ◌&&◌, List, [], ◌∷◌, ◌++◌}
+use Rattle.std.proofs.Common.{◌≡◌, ℕ, zero, suc, ◌-◌, ◌≤◌, Bool, true, false, cond, eqb, leb, not, ◌&&◌, List, []}
+use Rattle.std.proofs.Common.{◌∷◌, ◌++◌}
 use Rattle.std.proofs.Common.{length, map, drop, Option, Some, None, sym, ap, subst, ◌∙◌, refl, arith}
 use Rattle.std.specs.Prelude.{option_and_then, get_or, IfSome}
 use Rattle.std.specs.Int.{w32, w64, to_be_bytes}
@@ -14,7 +15,8 @@ use Rattle.apex_base.specs.Keys.{Boots, RowMap, key_text, key_of}
 use Rattle.apex_base.specs.Reading.{◌>>=◌, byte_at, number_at, at_end, four_text, eight_text}
 use Rattle.apex_base.specs.Spelling.{moment_at}
 use Rattle.apex_base.specs.Windows.{last_five}
-use Rattle.apex_world.specs.Opened.{moments_at, boots_of, boots_or_none, opened_boots, opened_sessions, era_of, activated_at}
+use Rattle.apex_world.specs.Opened.{moments_at, boots_of, boots_or_none, opened_boots, opened_sessions, era_of}
+use Rattle.apex_world.specs.Opened.{activated_at}
 use Rattle.apex_world.specs.Opened.{opened}
 use Rattle.apex_world.specs.Rows.{moments_text, boots_text, boots_row}
 use Rattle.apex_world.specs.World.{boots}

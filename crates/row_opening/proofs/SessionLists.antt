@@ -1,5 +1,6 @@
 -- The sessions that rows of tag 2 spell are those that the rows open to. Callers want `sessions_same`.
-use Rattle.std.proofs.Common.{◌≡◌, ◌⊎◌, ℕ, suc, ◌<◌, ◌^◌, Bool, true, cond, eqb, List, [], ◌∷◌, length, Option, Some, None, sym, ap, subst}
+use Rattle.std.proofs.Common.{◌≡◌, ◌⊎◌, ℕ, suc, ◌<◌, ◌^◌, Bool, true, cond, eqb, List, [], ◌∷◌, length, Option, Some}
+use Rattle.std.proofs.Common.{None, sym, ap, subst}
 use Rattle.std.proofs.Common.{◌∙◌, refl, inl, inr, arith}
 use Rattle.std.specs.Prelude.{IfSome}
 use Rattle.std.specs.Int.{w32, from_be_bytes}
@@ -51,7 +52,8 @@ row_if : (rest value : List ℕ) (r : Record) (id : ℕ × List ℕ) → FitByte
 row_if rest value r (n, b ∷ more) fits e f = absurd (cc f)
 row_if rest value r (n, []) fits e f =
     let (is, low) = id_is rest n fits e in
-    let same : r.id ≡ id_of n = subst (λ (o : Option Record). IfSome o (λ r. r.id ≡ id_of n)) f (read_id (id_of n) value) in
+    let same : r.id ≡ id_of n =
+    subst (λ (o : Option Record). IfSome o (λ r. r.id ≡ id_of n)) f (read_id (id_of n) value) in
     record {
       is = ap (λ (xs : List ℕ). 2 ∷ xs) (is ∙ ap id_text (sym same));
       low = subst (λ (id : SessionId). id.0 < 2 ^ 32) (sym same) low;

@@ -1,5 +1,7 @@
--- Which rows stand in the rows of the world that they open to, tag by tag: docs/rows.md. A key is given without its tag.
-use Rattle.std.specs.Prelude.{◌≡◌, ℕ, ◌≢◌, if◌then◌else◌, ◌==◌, ◌&&◌, Bool, true, false, not, is_some, nat_le, List, [], ◌∷◌, length, Option, Some, None}
+-- Which rows stand in the rows of the world that they open to, tag by tag: docs/rows.md. A key is given without its
+-- tag.
+use Rattle.std.specs.Prelude.{◌≡◌, ℕ, ◌≢◌, if◌then◌else◌, ◌==◌, ◌&&◌, Bool, true, false, not, is_some, nat_le, List}
+use Rattle.std.specs.Prelude.{[], ◌∷◌, length, Option, Some, None}
 use Rattle.std.specs.Int.{w32}
 use Rattle.std.specs.Str.{bytes_eq}
 use Rattle.apex_base.specs.declared.records.Record.{Record}

@@ -78,7 +78,8 @@ fn moments_at(alloc: Global, count: u8, bytes: &[u8]) -> Result<Option<Vec<Milli
 
 #[tactic(auto, unfolding(apex_world::specs::Opened::boots_of))]
 fn boots_of(alloc: Global, value: &[u8]) -> Result<Option<Boots>, AllocError>
-    ensures { IfOk result (λ found. option_map (λ boots. (boots.count, boots.moments.items)) found ≡ boots_of value.now) }
+    ensures { IfOk result (λ found. option_map (λ boots. (boots.count, boots.moments.items)) found
+        ≡ boots_of value.now) }
 {
     let Some((count, rest)) = u32_at(value) else {
         return Ok(None);

@@ -17,5 +17,4 @@ pub fn names_have_what_sessions_give()
         → ((name : List ℕ) → fin.get m (4 ∷ name) ≡ backup_of (opened_sessions m) name) → AgreesAt m scale 4 }
     ensures not_backup { (m : RowMap) (scale : Scale) (name : List ℕ)
         → fin.get m (4 ∷ name) ≢ backup_of (opened_sessions m) name → DiffersAt m scale 4 }
-{
-}
+{}

@@ -17,5 +17,6 @@ returns-then-is_count c =
 
 pub returns-else-is_count : goal.returns-else-is_count
 returns-else-is_count c =
-    c.is_count.ensures ∙ sym c.if-is_count.ensures ∙ boots_else c.args.value.now c.in-Some.boots c.in-Some.rest.now c.in-Some-byte_at.count
+    c.is_count.ensures ∙ sym c.if-is_count.ensures
+    ∙ boots_else c.args.value.now c.in-Some.boots c.in-Some.rest.now c.in-Some-byte_at.count
     c.in-Some-byte_at.after.now (sym c.in-Some.ensures) (sym c.in-Some-byte_at.ensures) c.if-is_count.ensures
