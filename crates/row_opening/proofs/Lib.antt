@@ -1,4 +1,5 @@
 mod AloneRows
+mod FileRows
 mod KeyOrder
 mod KeysRead
 mod MomentLists

@@ -3,8 +3,11 @@
 use Rattle.std.specs.Prelude.{◌≡◌, ℕ, ◌≢◌, if◌then◌else◌, ◌==◌, ◌&&◌, Bool, true, false, not, is_some, nat_le, List}
 use Rattle.std.specs.Prelude.{[], ◌∷◌, length, Option, Some, None}
 use Rattle.std.specs.Int.{w32}
+use Rattle.std.specs.List.{list_any}
 use Rattle.std.specs.Str.{bytes_eq}
+use Rattle.apex_base.specs.declared.numbers.SessionId.{SessionId}
 use Rattle.apex_base.specs.declared.records.Record.{Record}
+use Rattle.apex_base.specs.Held.{is_module}
 use Rattle.apex_base.specs.Keys.{id_of}
 use Rattle.apex_base.specs.Members.{In}
 use Rattle.apex_base.specs.Reading.{◌>>=◌, number_at, short_at, at_end}
@@ -38,6 +41,11 @@ record_in_row key value = number_at w32 key >>= (λ id. record_if id value)
 
 abbrev pub is_record_row : List ℕ → List ℕ → Bool
 is_record_row key value = is_some (record_in_row key value)
+
+-- 5. the session has the module as the target of one of its parts
+
+abbrev pub has_own : List Record → SessionId → ℕ → Bool
+has_own sessions id part = list_any (λ r. (r.id.0 == id.0) && list_any (λ p. is_module id part p.target) r.parts) sessions
 
 -- 6 and 9. two names
 

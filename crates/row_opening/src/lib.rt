@@ -12,5 +12,5 @@ mod tests;
 
 pub use alone::is_right_alone;
 pub use boots::{Boots, opened_boots};
-pub use laws::names_have_what_sessions_give;
+pub use laws::{files_are_those_of_kept_modules, names_have_what_sessions_give};
 pub use sessions::opened_sessions;
