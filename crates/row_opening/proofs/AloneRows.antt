@@ -3,16 +3,13 @@ use Rattle.std.proofs.Common.{◌≡◌, ◌≢◌, ℕ, suc, Bool, true, false,
 use Rattle.std.proofs.Common.{sym, ap}
 use Rattle.std.proofs.Common.{subst, ◌∙◌, refl, inl, inr}
 use Rattle.std.specs.Prelude.{option_and_then}
-use Rattle.std.specs.Option.{option_map}
-use Rattle.std.specs.Str.{bytes_eq}
 use Rattle.std.specs.FinMap as fin
 use Rattle.std.proofs.lemmas.Bool.{and_parts, cases_eq, ne_eqb, eq-eqb, eqb-true}
 use Rattle.std.proofs.lemmas.Slice.Eq.{bytes_eq-Decides}
 use Rattle.apex_base.specs.declared.numbers.Scale.{Scale}
-use Rattle.apex_base.specs.declared.records.Record.{Record}
 use Rattle.apex_base.specs.Keys.{Key, Boots, RecordOf, ActiveOf, BackupOf, FileOf, DataOf, SnapshotOf, PreRestoreOf}
 use Rattle.apex_base.specs.Keys.{WatchOf}
-use Rattle.apex_base.specs.Keys.{IsKey, RowMap, key_text, key_of, data_front, watch_front}
+use Rattle.apex_base.specs.Keys.{RowMap, key_text, key_of, data_front, watch_front}
 use Rattle.apex_base.specs.Members.{In}
 use Rattle.apex_base.specs.Reading.{eight_text}
 use Rattle.apex_base.specs.Sessions.{session_of}
@@ -22,11 +19,11 @@ use Rattle.apex_base.specs.Text.{is_name}
 use Rattle.apex_base.proofs.Finding.{some_if, some_of, some_then}
 use Rattle.apex_base.proofs.MemberLemmas.{each_in}
 use Rattle.apex_base.proofs.RowMaps.{entry_get, in_entries}
-use Rattle.apex_world.specs.Opened.{opened, boots_of, boots_or_none, opened_boots, opened_sessions, opened_contents}
+use Rattle.apex_world.specs.Opened.{opened, boots_of, boots_or_none, opened_sessions}
 use Rattle.apex_world.specs.Opened.{opened_watches, end_of, end_in, value_in}
 use Rattle.apex_world.specs.Rows.{row_at}
 use Rattle.row_opening.specs.BadRows.{opened_rows, AgreesAt, DiffersAt}
-use Rattle.row_opening.specs.RightRows.{is_value, is_boots_row, is_record_row, is_data_row, is_watch_row, StandsAlone}
+use Rattle.row_opening.specs.RightRows.{is_value, StandsAlone}
 use Rattle.row_opening.specs.RightRows.{is_right_row, is_right_at, are_right_at, WrongRow}
 use Rattle.row_opening.specs.RowBytes.{FitBytes, FitRow, FitRows}
 use Rattle.row_opening.proofs.KeysRead.{no_key_row}

@@ -1,5 +1,6 @@
 -- The rows of files, in the rows of the world that rows open to. Callers want `file_row_is`.
-use Rattle.std.proofs.Common.{◌≡◌, ℕ, ◌<◌, ◌^◌, Bool, true, false, cond, eqb, ◌&&◌, List, [], ◌∷◌, flat_map, Option, Some, None}
+use Rattle.std.proofs.Common.{◌≡◌, ℕ, ◌<◌, ◌^◌, Bool, true, false, cond, eqb, ◌&&◌}
+use Rattle.std.proofs.Common.{List, [], ◌∷◌, flat_map, Option, Some, None}
 use Rattle.std.proofs.Common.{sym, ap, subst, ◌∙◌, refl, inl, inr}
 use Rattle.std.specs.Prelude.{option_and_then, find}
 use Rattle.std.specs.List.{list_any}

@@ -47,7 +47,7 @@ short_if : (b : Bool) (n : ℕ) (bytes name rest : List ℕ) → ltb (length byt
     → n ∷ bytes ≡ short_text name rest
 short_if true n bytes name rest e f = absurd (cc f)
 short_if false n bytes name rest e f =
-    let parts : (take n bytes, drop n bytes) ≡ (name, rest) = cc f in
+    let parts : ◌≡◌ {A = List ℕ × List ℕ} (take n bytes, drop n bytes) (name, rest) = cc f in
     let name_is : take n bytes ≡ name = ap (λ (p : List ℕ × List ℕ). p.0) parts in
     let rest_is : drop n bytes ≡ rest = ap (λ (p : List ℕ × List ℕ). p.1) parts in
     let long : n ≤ length bytes = ltb-false (length bytes) n e in

@@ -1,7 +1,7 @@
 -- Reading moments one after the other, and the row of boots by its parts.
 use Rattle.std.proofs.Common.{◌≡◌, ℕ, zero, suc, ◌-◌, ◌+◌, ◌≤◌, ◌<◌, Bool, true, false, eqb, leb, not, ◌&&◌, List, []}
 use Rattle.std.proofs.Common.{◌∷◌, length}
-use Rattle.std.proofs.Common.{Option, Some, None, refl, sym, ap, subst, ◌∙◌, arith}
+use Rattle.std.proofs.Common.{Option, Some, None, refl, sym, ap, ◌∙◌, arith}
 use Rattle.std.specs.Prelude.{IfSome}
 use Rattle.std.specs.Int.{w32}
 use Rattle.std.specs.Option.{is_some}

@@ -1,9 +1,8 @@
 -- The data and the watches of the world that rows open to, by what the rows have. Callers want `contents_value` and
 -- `watch_value`.
-use Rattle.std.proofs.Common.{◌≡◌, ◌≢◌, ℕ, Bool, true, false, cond, eqb, IsTrue, List, [], ◌∷◌, ◌++◌, length, map}
-use Rattle.std.proofs.Common.{drop}
+use Rattle.std.proofs.Common.{◌≡◌, ◌≢◌, ℕ, Bool, true, false, cond, eqb, List, [], ◌∷◌, ◌++◌, length, map}
 use Rattle.std.proofs.Common.{Option, Some, None, sym, ap, subst, ◌∙◌, refl, inl, inr}
-use Rattle.std.specs.Prelude.{fold, option_and_then}
+use Rattle.std.specs.Prelude.{fold}
 use Rattle.std.specs.Ordering.{nat_cmp, eq_by_cmp}
 use Rattle.std.specs.Cmp.Lexicographic.{slice_cmp, nat_list_cmp_total}
 use Rattle.std.specs.FinMap as fin
@@ -11,7 +10,7 @@ use Rattle.std.specs.FinMap.{get-empty, get-insert, get-remove}
 use Rattle.std.proofs.lemmas.List.{take_at}
 use Rattle.apex_base.specs.Keys.{RowMap, data_front, watch_front, ends_of}
 use Rattle.apex_base.specs.Members.{In}
-use Rattle.apex_base.specs.Tables.{NameMap, Table, or_empty, part_of, with_part, value_of}
+use Rattle.apex_base.specs.Tables.{NameMap, Table, or_empty, with_part, value_of}
 use Rattle.apex_base.specs.Text.{is_name}
 use Rattle.apex_base.proofs.Finding.{filtered, some_if, some_then}
 use Rattle.apex_base.proofs.MemberLemmas.{in_map, in_filter}

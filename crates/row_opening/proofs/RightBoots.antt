@@ -1,7 +1,7 @@
 -- The row of boots is right if and only if its test holds. Callers want `boots_right` and `boots_took`.
 use Rattle.std.proofs.Common.{◌≡◌, ℕ, zero, suc, ◌-◌, ◌≤◌, Bool, true, false, cond, eqb, leb, not, ◌&&◌, List, []}
 use Rattle.std.proofs.Common.{◌∷◌, ◌++◌}
-use Rattle.std.proofs.Common.{length, map, drop, Option, Some, None, sym, ap, subst, ◌∙◌, refl, arith}
+use Rattle.std.proofs.Common.{length, drop, Option, Some, None, sym, ap, ◌∙◌, refl, arith}
 use Rattle.std.specs.Prelude.{option_and_then, get_or, IfSome}
 use Rattle.std.specs.Int.{w32, w64, to_be_bytes}
 use Rattle.std.specs.Str.{bytes_eq}
@@ -11,8 +11,8 @@ use Rattle.std.proofs.lemmas.List.{append-nil, length-drop}
 use Rattle.std.proofs.lemmas.List.FromFn.{length-map-range_with_len}
 use Rattle.std.proofs.lemmas.Slice.Eq.{bytes_eq-Decides}
 use Rattle.apex_base.specs.declared.numbers.Scale.{Scale}
-use Rattle.apex_base.specs.Keys.{Boots, RowMap, key_text, key_of}
-use Rattle.apex_base.specs.Reading.{◌>>=◌, byte_at, number_at, at_end, four_text, eight_text}
+use Rattle.apex_base.specs.Keys.{Boots, RowMap, key_of}
+use Rattle.apex_base.specs.Reading.{byte_at, number_at, at_end, four_text}
 use Rattle.apex_base.specs.Spelling.{moment_at}
 use Rattle.apex_base.specs.Windows.{last_five}
 use Rattle.apex_world.specs.Opened.{moments_at, boots_of, boots_or_none, opened_boots, opened_sessions, era_of}

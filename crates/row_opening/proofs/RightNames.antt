@@ -1,17 +1,16 @@
 -- Rows of data and of watches are right if and only if their tests hold. Callers want `data_right` and `watch_right`.
-use Rattle.std.proofs.Common.{◌≡◌, ℕ, Bool, true, false, cond, ◌&&◌, List, [], ◌∷◌, ◌++◌, Option, Some, None, sym, ap}
+use Rattle.std.proofs.Common.{◌≡◌, ℕ, Bool, true, false, cond, ◌&&◌, List, [], ◌∷◌, Option, Some, None, sym, ap}
 use Rattle.std.proofs.Common.{subst}
 use Rattle.std.proofs.Common.{◌∙◌, refl}
 use Rattle.std.specs.Prelude.{option_and_then, is_some, IfSome}
-use Rattle.std.specs.Int.{w64, to_be_bytes}
+use Rattle.std.specs.Int.{w64}
 use Rattle.std.specs.Option.{option_map}
 use Rattle.std.specs.FinMap as fin
-use Rattle.std.proofs.lemmas.List.{append-nil}
 use Rattle.apex_base.specs.declared.numbers.Scale.{Scale}
 use Rattle.apex_base.specs.Keys.{DataOf, WatchOf, RowMap, data_front, watch_front, key_of, data_key_of, watch_key_of}
-use Rattle.apex_base.specs.Reading.{◌>>=◌, number_at, at_end, eight_text, short_at, short_text}
+use Rattle.apex_base.specs.Reading.{number_at, at_end, eight_text, short_at, short_text}
 use Rattle.apex_base.specs.Text.{is_name}
-use Rattle.apex_world.specs.Opened.{value_in, end_of}
+use Rattle.apex_world.specs.Opened.{end_of}
 use Rattle.session_record.proofs.Steps.{AreBytes, bind_holds}
 use Rattle.session_record.proofs.Took.{eight_took}
 use Rattle.row_opening.specs.BadRows.{opened_rows}

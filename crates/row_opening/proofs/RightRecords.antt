@@ -1,5 +1,5 @@
 -- Rows of sessions are right if and only if their values spell records. Callers want `record_right`.
-use Rattle.std.proofs.Common.{◌≡◌, ℕ, ◌<◌, ◌^◌, Bool, true, cond, ltb, List, [], ◌∷◌, ◌++◌, Option, Some, None, sym}
+use Rattle.std.proofs.Common.{◌≡◌, ℕ, ◌<◌, ◌^◌, Bool, true, cond, List, [], ◌∷◌, Option, Some, None, sym}
 use Rattle.std.proofs.Common.{ap}
 use Rattle.std.proofs.Common.{subst, ◌∙◌, refl}
 use Rattle.std.specs.Prelude.{option_and_then, is_some, IfSome}
@@ -19,7 +19,7 @@ use Rattle.session_record.proofs.Steps.{AreBytes, Took}
 use Rattle.session_record.proofs.Took.{four_took}
 use Rattle.session_record.proofs.TookRecords.{record_took}
 use Rattle.row_opening.specs.BadRows.{opened_rows}
-use Rattle.row_opening.specs.RightRows.{is_value, record_in_row, is_record_row}
+use Rattle.row_opening.specs.RightRows.{is_value, is_record_row}
 use Rattle.row_opening.proofs.KeysRead.{same_value, no_key_row, key_row}
 use Rattle.row_opening.proofs.OpenedRecords.{session_in}
 

@@ -1,29 +1,28 @@
 -- The sessions that rows of tag 2 spell are those that the rows open to. Callers want `sessions_same`.
-use Rattle.std.proofs.Common.{◌≡◌, ◌⊎◌, ℕ, suc, ◌<◌, ◌^◌, Bool, true, cond, eqb, List, [], ◌∷◌, length, Option, Some}
+use Rattle.std.proofs.Common.{◌≡◌, ◌⊎◌, ℕ, suc, ◌<◌, ◌^◌, true, eqb, List, [], ◌∷◌, Option, Some}
 use Rattle.std.proofs.Common.{None, sym, ap, subst}
-use Rattle.std.proofs.Common.{◌∙◌, refl, inl, inr, arith}
+use Rattle.std.proofs.Common.{◌∙◌, refl, inl, inr}
 use Rattle.std.specs.Prelude.{IfSome}
-use Rattle.std.specs.Int.{w32, from_be_bytes}
+use Rattle.std.specs.Int.{w32}
 use Rattle.std.specs.Ordering.{nat_cmp}
 use Rattle.std.specs.Cmp.Lexicographic.{slice_cmp}
 use Rattle.std.specs.declared.cmp.Ordering.TheVariants.{Less}
 use Rattle.std.specs.FinMap as fin
 use Rattle.std.specs.FinMap.{is_sorted}
-use Rattle.std.specs.FinMap.Entries.{below_all}
 use Rattle.std.proofs.lemmas.Bool.{and_parts, eqb-true}
 use Rattle.std.proofs.lemmas.Nat.{from_be_bytes-to_be_bytes_4}
 use Rattle.apex_base.specs.declared.numbers.SessionId.{SessionId}
 use Rattle.apex_base.specs.declared.records.Record.{Record}
 use Rattle.apex_base.specs.Keys.{RecordOf, RowMap, key_text, id_text, id_of}
 use Rattle.apex_base.specs.Members.{In}
-use Rattle.apex_base.specs.Reading.{◌>>=◌, number_at, at_end}
+use Rattle.apex_base.specs.Reading.{◌>>=◌, number_at}
 use Rattle.apex_base.specs.Sessions.{Ascend}
 use Rattle.apex_base.specs.Spelling.{record_of}
 use Rattle.apex_base.proofs.Finding.{some_if}
 use Rattle.apex_base.proofs.MemberLemmas.{each_in, in_each}
 use Rattle.apex_base.proofs.RowMaps.{sorted_entries, entry_get, in_entries}
 use Rattle.apex_base.proofs.SpellingLemmas.{four_again}
-use Rattle.apex_world.specs.Opened.{record_in, opened_sessions}
+use Rattle.apex_world.specs.Opened.{opened_sessions}
 use Rattle.apex_world.proofs.OpenedSessions.{same_members}
 use Rattle.row_opening.specs.RightRows.{record_in_row, record_if}
 use Rattle.row_opening.specs.RowBytes.{FitBytes, FitRow, FitRows}

@@ -1,5 +1,5 @@
 -- One row more of the sessions that rows spell.
-use Rattle.std.proofs.Common.{◌≡◌, ℕ, List, [], ◌∷◌, ◌++◌, Some, ap, sym, ◌∙◌}
+use Rattle.std.proofs.Common.{◌≡◌, ℕ, List, [], ◌∷◌, ◌++◌, Some, ap, ◌∙◌}
 use Rattle.std.proofs.lemmas.List.{append_assoc}
 use Rattle.apex_base.specs.declared.records.Record.{Record}
 use Rattle.row_opening.specs.RowSessions.{sessions_in, with_record, record_in_entry}

@@ -45,7 +45,8 @@ is_record_row key value = is_some (record_in_row key value)
 -- 5. the session has the module as the target of one of its parts
 
 abbrev pub has_own : List Record → SessionId → ℕ → Bool
-has_own sessions id part = list_any (λ r. (r.id.0 == id.0) && list_any (λ p. is_module id part p.target) r.parts) sessions
+has_own sessions id part =
+    list_any (λ r. (r.id.0 == id.0) && list_any (λ p. is_module id part p.target) r.parts) sessions
 
 -- 6 and 9. two names
 

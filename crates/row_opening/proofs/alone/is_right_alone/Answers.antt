@@ -1,7 +1,6 @@
 use Rattle.std.proofs.Common.{◌≡◌, true, false}
 use Rattle.std.specs.FinMap as fin
 use Rattle.std.proofs.lemmas.Result.{IfOk-weaker}
-use Rattle.row_opening.specs.BadRows.{AgreesAt, DiffersAt}
 use Rattle.row_opening.specs.RightRows.{are_right_at, WrongRow}
 use Rattle.row_opening.specs.RowBytes.{FitRows}
 use Rattle.row_opening.proofs.AloneRows.{agrees, differs}

@@ -1,8 +1,8 @@
-use Rattle.std.proofs.Common.{rules, ◌≡◌, ◌++◌, List, [], ◌∷◌, Some, ap, sym, ◌∙◌}
+use Rattle.std.proofs.Common.{◌≡◌, ◌++◌, ◌∷◌, Some}
 use Rattle.std.specs.FinMap as fin
 use Rattle.row_map.specs.Rows.{shown}
 use Rattle.row_opening.specs.RowBytes.{FitRow, FitRows}
-use Rattle.row_opening.specs.RowSessions.{sessions_in, with_record, record_in_entry}
+use Rattle.row_opening.specs.RowSessions.{sessions_in, record_in_entry}
 use Rattle.row_opening.proofs.SessionSteps.{one_pushed}
 use Rattle.row_opening.proofs.sessions.sessions_in.Goals as goal
 
