@@ -203,6 +203,32 @@ record_keyed eras r k l (inr h) =
     let (p, i, j) = in_flat_map_back (λ (p : Part). name_keys eras r p.name) k r.parts h in
     name_keyed eras r p.name k l j
 
+module _ (w : World) (made : (r : Record) → In r w.sessions → r.id.0 < 2 ^ 32)
+    (submitted : (s : Submission) → In s w.modules → s.session.0 < 2 ^ 32) where
+  keyed : (k : Key) → In k (row_keys w) → IsKey k
+  keyed k (inl e) = subst IsKey e tt
+  keyed k (inr h) =
+      elim (in_append k (sessions_keys w ++ modules_keys w ++ table_keys DataOf w.contents)
+      (table_keys WatchOf w.watches) h) [
+        | inr i ↦ let (a, b, e) = table_back WatchOf w.watches k i in subst IsKey e tt
+        | inl i ↦ elim (in_append k (sessions_keys w ++ modules_keys w) (table_keys DataOf w.contents) i) [
+          | inr j ↦ let (a, b, e) = table_back DataOf w.contents k j in subst IsKey e tt
+          | inl j ↦ elim (in_append k (sessions_keys w) (modules_keys w) j) [
+            | inl l ↦ let (r, m, n) = in_flat_map_back (record_keys w.eras) k w.sessions l in
+                record_keyed w.eras r k (made r m) n
+            | inr l ↦
+                let (s, m, n) = in_flat_map_back file_keys k w.modules l in
+                let (path, o, e) = in_map_back (λ (path : List ℕ). FileOf s.session s.part path) k
+                (fin.keys s.content) n in
+                subst IsKey e (submitted s m)
+          ]
+        ]
+      ]
+
+  -- the keys have each key that has a value, where sessions and modules have ids of their width
+  pub wide_keys : AreKeys (row_keys w) (row_at w)
+  wide_keys = record { keyed = keyed; all = λ k v i e. all_keys w k v e }
+
 module _ (w : World) (law : Lawful w) where
   pub record_id : (r : Record) → In r w.sessions → r.id.0 < 2 ^ 32
   record_id r h = (law.ranges.sessions r h).id
@@ -216,29 +242,9 @@ module _ (w : World) (law : Lawful w) where
       let l = record_id r i in
       omega (arith, l, same)
 
-  keyed : (k : Key) → In k (row_keys w) → IsKey k
-  keyed k (inl e) = subst IsKey e tt
-  keyed k (inr h) =
-      elim (in_append k (sessions_keys w ++ modules_keys w ++ table_keys DataOf w.contents)
-      (table_keys WatchOf w.watches) h) [
-        | inr i ↦ let (a, b, e) = table_back WatchOf w.watches k i in subst IsKey e tt
-        | inl i ↦ elim (in_append k (sessions_keys w ++ modules_keys w) (table_keys DataOf w.contents) i) [
-          | inr j ↦ let (a, b, e) = table_back DataOf w.contents k j in subst IsKey e tt
-          | inl j ↦ elim (in_append k (sessions_keys w) (modules_keys w) j) [
-            | inl l ↦ let (r, m, n) = in_flat_map_back (record_keys w.eras) k w.sessions l in
-                record_keyed w.eras r k (record_id r m) n
-            | inr l ↦
-                let (s, m, n) = in_flat_map_back file_keys k w.modules l in
-                let (path, o, e) = in_map_back (λ (path : List ℕ). FileOf s.session s.part path) k
-                (fin.keys s.content) n in
-                subst IsKey e (submitted_id s m)
-          ]
-        ]
-      ]
-
   -- the keys of a world have each key that has a value
   pub world_keys : AreKeys (row_keys w) (row_at w)
-  world_keys = record { keyed = keyed; all = λ k v i e. all_keys w k v e }
+  world_keys = wide_keys w record_id submitted_id
 
   -- at each key the rows have its row
   pub world_row : (k : Key) → IsKey k → fin.get (rows w) (key_text k) ≡ row_at w k

@@ -1,0 +1,15 @@
+mod AloneRows
+mod FileRows
+mod KeyOrder
+mod KeysRead
+mod MomentLists
+mod MomentSteps
+mod NameRows
+mod OpenedRecords
+mod OpenedValues
+mod OpenedWorld
+mod RightBoots
+mod RightNames
+mod RightRecords
+mod SessionLists
+mod SessionSteps

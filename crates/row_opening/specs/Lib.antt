@@ -1,0 +1,4 @@
+pub mod BadRows
+pub mod RightRows
+pub mod RowBytes
+pub mod RowSessions
