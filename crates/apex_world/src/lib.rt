@@ -19,7 +19,9 @@ pub use laws::{
     abort_changes_rows, activated_sessions_are_whole, boots_go_by_rows, boots_lead_to_running,
     boots_settle_rows, boots_tell_no_alike_worlds_apart, calls_keep_running, calls_settle_rows,
     calls_tell_no_alike_worlds_apart, empty_world_is_lawful, lawful_worlds_are_decided,
-    modules_are_kept_by_name, origins_tell_sources, plain_worlds_do_less, plain_worlds_stay_plain, ready_changes_rows, refusals_change_nothing, rollbacks_bring_back_data, sessions_stay, submits_put_rows, success_changes_rows, worlds_of_the_same_parts_stay_so,
+    modules_are_kept_by_name, origins_tell_sources, plain_worlds_do_less, plain_worlds_stay_plain,
+    ready_changes_rows, refusals_change_nothing, rollbacks_bring_back_data, sessions_stay,
+    submits_put_rows, success_changes_rows, worlds_of_the_same_parts_stay_so,
 };
 pub use modules::{
     ModuleList, Package, PackageList, SharedModule, check_module, manifest_in,
