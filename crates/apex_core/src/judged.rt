@@ -1,0 +1,45 @@
+//! What a call answers, and what it changes.
+ghost use Rattle.std.specs.Prelude.{◌≡◌, []};
+ghost use Rattle.std.specs.Cmp.Lexicographic.{slice_cmp};
+ghost use Rattle.std.specs.List.Sorted.{IsStrictlySortedBy};
+ghost use Rattle.std.specs.Ordering.{nat_cmp};
+ghost use Rattle.row_codec.specs.Batch.{keys_of};
+ghost use Rattle.apex_core.specs.declared.judged.Patch.TheVariants.{Nothing};
+
+use apex_base::Record;
+use apex_world::Reply;
+use row_codec::Row;
+use std::alloc::Global;
+
+/// What changes in the tables.
+#[derive(Drop)]
+pub enum Patch {
+    Nothing,
+    /// The session at a place is this one.
+    Session { place: usize, session: Record },
+}
+
+/// The reply to a call, the rows that it changes, and what it changes in the tables.
+#[derive(Drop)]
+pub struct Judged {
+    pub reply: Reply,
+    pub rows: Vec<Row>,
+    pub patch: Patch,
+}
+
+impl Judged {
+    /// A reply, and nothing changes.
+    #[tactic(auto, using(crate::proofs::Batches::none_ascend))]
+    pub(crate) fn quiet(alloc: Global, reply: Reply) -> Self
+        ensures reply { result.reply ≡ reply }
+        ensures rows { result.rows.items ≡ [] }
+        ensures patch { result.patch ≡ Nothing }
+        ensures ascending { IsStrictlySortedBy (slice_cmp nat_cmp) (keys_of result.rows.items) }
+    {
+        Judged {
+            reply,
+            rows: Vec::new(alloc),
+            patch: Patch::Nothing,
+        }
+    }
+}

@@ -1,0 +1,106 @@
+//! What each call is to do: `docs/calls.md`.
+ghost use Rattle.std.specs.Prelude.{◌≡◌, IfOk};
+ghost use Rattle.row_codec.specs.Batch.{keys_of};
+ghost use Rattle.std.specs.Cmp.Lexicographic.{slice_cmp};
+ghost use Rattle.std.specs.Ordering.{nat_cmp};
+ghost use Rattle.std.specs.List.Sorted.{IsStrictlySortedBy};
+ghost use Rattle.apex_base.specs.Keys.{RowMap};
+ghost use Rattle.apex_world.specs.declared.calls.Call.TheVariants as calls;
+ghost use Rattle.apex_world.specs.Calls.{call_at};
+ghost use Rattle.apex_world.specs.Rows.{is_staged};
+ghost use Rattle.apex_world.specs.World.{World};
+ghost use Rattle.apex_core.specs.Core.{StandsFor};
+ghost use Rattle.apex_core.specs.Judged.{IsDone, IsJudged, IsPlaced};
+
+use crate::judged::{Judged, Patch};
+use crate::rows::{record_rows, session_in};
+use crate::sessions::{place_of, session_with};
+use crate::tables::Tables;
+use apex_base::{Move, Refusal, SessionId, State, moved};
+use apex_world::{CallRef, Reply};
+use row_map::Rows;
+use std::alloc::{AllocError, Global};
+
+/// Ready: the session's record changes where it was VERIFIED.
+fn judge_ready(
+    alloc: Global,
+    rows: &Rows,
+    tables: &Tables,
+    id: SessionId,
+) -> Result<Judged, AllocError>
+    requires stands { (w : World) × StandsFor rows.now tables.now w }
+    ensures judged { (w : World) → StandsFor rows.now tables.now w → IfOk result (λ j. IsJudged j rows.now w (calls.Ready id)) }
+    ensures placed { IfOk result (λ j. IsPlaced j.patch tables.now.sessions.items) }
+    ensures ascending { IfOk result (λ j. IsStrictlySortedBy (slice_cmp nat_cmp) (keys_of j.rows.items)) }
+{
+    let Ok(place) = place_of(&tables.sessions, id) else {
+        return Ok(Judged::quiet(alloc, Reply::Refused(Refusal::NoSession { id })));
+    };
+    let r = &tables.sessions[place];
+    let Some(next) = moved(r.state, Move::Ready) else {
+        let state = r.state;
+        return Ok(Judged::quiet(alloc, Reply::Refused(Refusal::BadState { state })));
+    };
+    if is_staged(r.state) {
+        return Ok(Judged::quiet(alloc, Reply::Done));
+    }
+    let session = session_in(alloc, r, next, r.rollback)?;
+    let rows = record_rows(alloc, &session)?;
+    Ok(Judged {
+        reply: Reply::Done,
+        rows,
+        patch: Patch::Session { place, session },
+    })
+}
+
+fn is_staged(state: State) -> bool
+    ensures { result ≡ is_staged state }
+{
+    matches!(state, State::Staged)
+}
+
+/// The state of a session, or of a child's parent.
+fn judge_state(
+    alloc: Global,
+    rows: &Rows,
+    tables: &Tables,
+    id: SessionId,
+) -> Result<Judged, AllocError>
+    ensures judged { (w : World) → StandsFor rows.now tables.now w → IfOk result (λ j. IsJudged j rows.now w (calls.StateOf id)) }
+    ensures placed { IfOk result (λ j. IsPlaced j.patch tables.now.sessions.items) }
+    ensures ascending { IfOk result (λ j. IsStrictlySortedBy (slice_cmp nat_cmp) (keys_of j.rows.items)) }
+{
+    match session_with(&tables.sessions, id) {
+        None => Ok(Judged::quiet(alloc, Reply::Refused(Refusal::NoSession { id }))),
+        Some(r) => Ok(Judged::quiet(alloc, Reply::State(r.state, r.rollback))),
+    }
+}
+
+/// What a call is to do, in each world that the rows and the tables stand for.
+pub fn judge(
+    alloc: Global,
+    rows: &Rows,
+    tables: &Tables,
+    call: &CallRef,
+) -> Result<Judged, AllocError>
+    requires done { IsDone (call_at call.now) }
+    requires stands { (w : World) × StandsFor rows.now tables.now w }
+    ensures judged { (w : World) → StandsFor rows.now tables.now w → IfOk result (λ j. IsJudged j rows.now w (call_at call.now)) }
+    ensures placed { IfOk result (λ j. IsPlaced j.patch tables.now.sessions.items) }
+    ensures ascending { IfOk result (λ j. IsStrictlySortedBy (slice_cmp nat_cmp) (keys_of j.rows.items)) }
+{
+    match call {
+        CallRef::Ready { id } => judge_ready(alloc, rows, tables, *id),
+        CallRef::StateOf { id } => judge_state(alloc, rows, tables, *id),
+        CallRef::Submit { .. }
+        | CallRef::Abort { .. }
+        | CallRef::Success { .. }
+        | CallRef::Revert
+        | CallRef::Commit { .. }
+        | CallRef::Put { .. }
+        | CallRef::Drop { .. }
+        | CallRef::Get { .. }
+        | CallRef::Watch { .. }
+        | CallRef::Report { .. } => unreachable!(),
+    }
+}

@@ -1,0 +1,15 @@
+//! The manager of one thread: rows, and beside them what a call needs. A call is judged, then makes a batch, then changes
+//! rows and tables.
+#![tactic(auto)]
+
+mod judged;
+mod judging;
+mod manager;
+mod rows;
+mod sessions;
+mod tables;
+
+pub use judged::{Judged, Patch};
+pub use judging::judge;
+pub use manager::Core;
+pub use tables::Tables;

@@ -1,0 +1,13 @@
+//! What a core keeps beside its rows, so that no call walks over them.
+use apex_base::{Millis, Pick, Record, Scale, Shared};
+use apex_world::Image;
+
+/// The sessions, ascending by id, and what runs since the last boot.
+#[derive(Drop)]
+pub struct Tables {
+    pub(crate) scale: Scale,
+    pub(crate) sessions: Vec<Record>,
+    pub(crate) image: Shared<Image>,
+    pub(crate) active: Vec<Pick>,
+    pub(crate) clock: Millis,
+}
