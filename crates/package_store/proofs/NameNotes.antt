@@ -12,7 +12,8 @@ use Rattle.apex_base.specs.declared.records.Record.{Record}
 use Rattle.apex_base.specs.Held.{is_standing, is_undoable, held, before, kept}
 use Rattle.apex_base.specs.Spelling.{target_text}
 use Rattle.package_store.specs.Named.{Note, or_first, note_name, note_names, note_all}
-use Rattle.package_store.specs.Settled.{stands_for, undoable_for, settled, file_stays}
+use Rattle.apex_base.specs.Settled.{stands_for, is_undoable_for}
+use Rattle.package_store.specs.Settled.{settled, file_stays}
 use Rattle.package_store.specs.Spelled.{change_to}
 use Rattle.package_store.proofs.RowNotes.{bytes_turned}
 
@@ -140,13 +141,13 @@ module _ (records : List Record) where
     find_join false r rest n = refl
 
     backup_all : (rs : List Record) (n : Note) → fold (λ n r. note_names records r (4 ∷ name) n) n rs
-        ≡ or_first n (option_map backup (find (undoable_for name) rs))
+        ≡ or_first n (option_map backup (find (is_undoable_for name) rs))
     backup_all [] n = last_first n
     backup_all (r ∷ rs) n =
-        let rest = find (undoable_for name) rs in
+        let rest = find (is_undoable_for name) rs in
         backup_all rs (note_names records r (4 ∷ name) n)
         ∙ ap (λ (m : Note). or_first m (option_map backup rest)) (backup_parts r r.parts n)
-        ∙ find_join (undoable_for name r) r rest n
+        ∙ find_join (is_undoable_for name r) r rest n
 
     backup_to : (o : Option Record) → or_first None (option_map backup o)
         ≡ change_to None (option_map (λ r. target_text (before records r name) []) o)
@@ -154,7 +155,7 @@ module _ (records : List Record) where
     backup_to (Some r) = refl
 
     pub backup_noted : note_all records (4 ∷ name) ≡ change_to None (settled records (4 ∷ name) None)
-    backup_noted = backup_all records None ∙ backup_to (find (undoable_for name) records)
+    backup_noted = backup_all records None ∙ backup_to (find (is_undoable_for name) records)
 
   -- All other keys
 

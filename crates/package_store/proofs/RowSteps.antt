@@ -20,7 +20,8 @@ use Rattle.apex_base.specs.Keys.{RowMap}
 use Rattle.apex_base.proofs.RowMaps.{eq_bytes}
 use Rattle.row_map.specs.Rows.{shown, rows_of}
 use Rattle.package_store.specs.Named.{Note, resettled, note_row}
-use Rattle.package_store.specs.Settled.{active_value, backup_value, settled, settled_value, file_stays}
+use Rattle.apex_base.specs.Settled.{active_of, backup_of}
+use Rattle.package_store.specs.Settled.{settled, settled_value, file_stays}
 use Rattle.package_store.specs.Spelled.{ChangeMap, change_to}
 use Rattle.package_store.proofs.Maps.{not_below, ascending}
 use Rattle.package_store.proofs.Noted.{same_itself}
@@ -51,8 +52,8 @@ row_seen : (records : List Record) (key value : List ℕ) (n : Note) → n ≡ c
     → note_row (kept records) key value n ≡ change_to (Some value) (settled records key (Some value))
 row_seen records [] value n e = e ∙ same_value value
 row_seen records (tag ∷ rest) value n e =
-    row_if (tag == 3) (tag == 4) (tag == 5) (file_stays (kept records) rest) (active_value records rest)
-    (backup_value records rest) value n e
+    row_if (tag == 3) (tag == 4) (tag == 5) (file_stays (kept records) rest) (active_of records rest)
+    (backup_of records rest) value n e
 
 -- ---- all rows
 

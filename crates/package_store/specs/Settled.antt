@@ -1,36 +1,16 @@
 -- What rows come to once they are settled by the records of all sessions: docs/rows.md, tags 3 to 5.
-use Rattle.std.specs.Prelude.{ℕ, ◌≢◌, ◌<◌, ◌&&◌, ◌==◌, Bool, true, List, [], ◌∷◌, find, Option, Some, None}
+use Rattle.std.specs.Prelude.{ℕ, ◌≢◌, ◌<◌, ◌==◌, Bool, true, List, [], ◌∷◌, Option, None}
 use Rattle.std.specs.Prelude.{if◌then◌else◌}
 use Rattle.std.specs.Int.{w32, from_be_bytes}
-use Rattle.std.specs.List.{list_any, AllByRecursion}
-use Rattle.std.specs.Option.{option_map}
+use Rattle.std.specs.List.{AllByRecursion}
 use Rattle.std.specs.FinMap as fin
 use Rattle.apex_base.specs.declared.records.Record.{Record}
 use Rattle.apex_base.specs.declared.records.Target.{Target}
 use Rattle.apex_base.specs.declared.records.Target.TheVariants as targets
-use Rattle.apex_base.specs.Held.{is_undoable, is_standing, held, before, kept, is_target}
+use Rattle.apex_base.specs.Held.{kept, is_target}
 use Rattle.apex_base.specs.Keys.{Key, ActiveOf, BackupOf, FileOf, RowMap, file_front, key_text}
-use Rattle.apex_base.specs.Sessions.{names}
-use Rattle.apex_base.specs.Spelling.{target_text}
+use Rattle.apex_base.specs.Settled.{active_of, backup_of}
 use Rattle.row_codec.specs.declared.batch.Row.{Row}
-
--- a session that stands names it
-abbrev pub stands_for : List ℕ → Record → Bool
-stands_for name r = is_standing r.state && names name r
-
--- a session that can still be undone names it
-abbrev pub undoable_for : List ℕ → Record → Bool
-undoable_for name r = is_undoable r.state && names name r
-
--- the target that a name holds, where a session that stands names it
-abbrev pub active_value : List Record → List ℕ → Option (List ℕ)
-active_value records name =
-    if list_any (stands_for name) records then Some (target_text (held records name) []) else None
-
--- the target that it held before the session that can still be undone
-abbrev pub backup_value : List Record → List ℕ → Option (List ℕ)
-backup_value records name =
-    option_map (λ r. target_text (before records r name) []) (find (undoable_for name) records)
 
 -- A file's key has the id of the session in four bytes, and the part. Its module is among these targets; what is
 -- shorter is no file's key, and stays.
@@ -43,8 +23,8 @@ file_stays kept _ = true
 abbrev pub settled : List Record → List ℕ → Option (List ℕ) → Option (List ℕ)
 settled records [] value = value
 settled records (tag ∷ rest) value =
-    if tag == 3 then active_value records rest
-    else (if tag == 4 then backup_value records rest
+    if tag == 3 then active_of records rest
+    else (if tag == 4 then backup_of records rest
     else (if tag == 5 then (if file_stays (kept records) rest then value else None)
     else value))
 
@@ -53,8 +33,8 @@ settled_value rows records key = settled records key (fin.get rows key)
 
 -- the same by what a row is of: the law `settled_by_key`
 abbrev pub settled_row : RowMap → List Record → Key → Option (List ℕ)
-settled_row rows records (ActiveOf name) = active_value records name
-settled_row rows records (BackupOf name) = backup_value records name
+settled_row rows records (ActiveOf name) = active_of records name
+settled_row rows records (BackupOf name) = backup_of records name
 settled_row rows records (FileOf session part path) =
     if is_target (kept records) session part then fin.get rows (file_front session part path) else None
 settled_row rows records key = fin.get rows (key_text key)
