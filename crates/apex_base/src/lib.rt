@@ -16,6 +16,7 @@ mod path;
 mod records;
 mod refusal;
 mod shared;
+mod targets;
 #[cfg(test)]
 mod tests;
 mod text;
@@ -38,5 +39,6 @@ pub use records::{
 };
 pub use refusal::Refusal;
 pub use shared::Shared;
+pub use targets::{before, held, is_target, kept};
 pub use text::{Name, Print};
 pub use why::Why;

@@ -1,7 +1,7 @@
 //! A module: a directory of files, `docs/formats/module.md`.
 ghost use Rattle.std.specs.Prelude.{◌≡◌, ◌≢◌, ◌≤◌, not, IsOk, OnOk, OnErr, IfErr, Some, None, option_map};
 ghost use Rattle.std.specs.FinMap as fin;
-ghost use Rattle.apex_base.specs.Modules.{module_weight, put_fault, HoldsModule};
+ghost use Rattle.apex_base.specs.Modules.{IsModule, module_weight, put_fault, HoldsModule};
 ghost use Rattle.apex_base.specs.declared.module.PutWhy.TheVariants.{NoMemory};
 
 use crate::{Bytes, FilePath, Listed};
@@ -121,6 +121,7 @@ impl Module {
     pub fn files(&self) -> &BTreeMap<FilePath, Bytes>
         ensures files { result.now.entries ≡ fin.entries self.now }
         ensures holds { HoldsModule result.now.entries }
+        ensures whole { IsModule self.now }
     {
         &self.files
     }
@@ -129,6 +130,7 @@ impl Module {
     pub fn weight(&self) -> u64
         ensures weight { result ≡ module_weight self.now }
         ensures small { result ≤ 67125248 }
+        ensures whole { IsModule self.now }
     {
         let mut weight = 0;
         for (_, content) in self.files() {

@@ -1,6 +1,6 @@
 //! Numbers with a range, and the two scales of a store.
 ghost use Rattle.std.specs.Prelude.{◌≡◌};
-ghost use Rattle.apex_base.specs.Ranges.{IsVersion};
+ghost use Rattle.apex_base.specs.Ranges.{IsVersion, IsMillis};
 ghost use Rattle.apex_base.specs.Numbers.{version_of, millis_of, scale_modules, scale_file_weight, scale_data_weight};
 ghost use Rattle.apex_base.specs.Numbers.{scale_units, scale_device_len, scale_number, scale_of_number};
 
@@ -86,7 +86,8 @@ impl Millis {
 
     /// The number of milliseconds.
     pub fn number(self) -> u64
-        ensures { result ≡ self }
+        ensures value { result ≡ self }
+        ensures range { IsMillis self }
     {
         self.number
     }

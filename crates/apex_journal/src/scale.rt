@@ -8,6 +8,7 @@ use apex_base::Scale;
 /// The offset of the first half. So far it is always the one in use.
 pub(crate) const START: u64 = 4096;
 
+/// The length of a half in bytes.
 pub(crate) fn half_len(scale: Scale) -> u64
     ensures len { result ≡ half_len scale }
     ensures small { result < 2 ^ 32 }

@@ -1,7 +1,7 @@
 -- What a boot makes of the sessions of a lawful world: rollback sessions go back to where they went, since no boot
 -- changes what a name held before a session that was a success. Callers want `undone_after`.
-use Rattle.std.proofs.Common.{◌≡◌, ℕ, Bool, true, false, ◌&&◌, List, [], ◌∷◌, map, fold, Option, Some, None, sym, ap}
-use Rattle.std.proofs.Common.{subst, ◌∙◌, refl, inl, inr}
+use Rattle.std.proofs.Common.{◌≡◌, ℕ, Bool, true, false, ◌&&◌, List, [], ◌∷◌, map, Some, sym, ap}
+use Rattle.std.proofs.Common.{subst, ◌∙◌, refl}
 use Rattle.std.specs.Prelude.{nat_lt}
 use Rattle.std.proofs.lemmas.Bool.{false≢true}
 use Rattle.apex_base.specs.declared.numbers.SessionId.{SessionId}
@@ -11,7 +11,7 @@ use Rattle.apex_base.specs.declared.records.Record.{Record}
 use Rattle.apex_base.specs.declared.records.State.{State}
 use Rattle.apex_base.specs.declared.records.Target.{Target}
 use Rattle.apex_base.specs.Commit.{rollback_id, target_version, part_before}
-use Rattle.apex_base.specs.Held.{candidate, later, target_of, latest, before, is_success}
+use Rattle.apex_base.specs.Held.{candidate, before, is_success}
 use Rattle.apex_base.specs.Members.{In}
 use Rattle.apex_base.specs.Rollbacks.{is_committed}
 use Rattle.apex_base.specs.Sessions.{session_of}
@@ -23,26 +23,8 @@ use Rattle.apex_world.specs.Selection.{Mounts}
 use Rattle.apex_world.specs.World.{World}
 use Rattle.apex_world.proofs.BootLaws.{number, turn, after, cause_for, keeps, way, map_found, undone_success}
 use Rattle.apex_world.proofs.BootRollbacks.{settles}
+use Rattle.apex_world.proofs.SessionMaps.{latest_map}
 use Rattle.apex_world.proofs.BootTurned.{turned_success, turned_from_success, turned_begun}
-
--- The latest after a step of each session by itself
-
-module _ (f : Record → Record) (name : List ℕ) (test test' : Record → Bool) where
-  best_map : (ss : List Record) (b : Option (ℕ × Target))
-      → ((r : Record) → In r ss → candidate (test' (f r)) name (f r) ≡ candidate (test r) name r)
-      → fold (λ b r. later b (candidate (test' r) name r)) b (map f ss)
-      ≡ fold (λ b r. later b (candidate (test r) name r)) b ss
-  best_map [] b same = refl
-  best_map (x ∷ ss) b same =
-      ap (λ (c : Option (ℕ × Target)). fold (λ b r. later b (candidate (test' r) name r)) (later b c) (map f ss))
-      (same x (inl refl))
-      ∙ best_map ss (later b (candidate (test x) name x)) (λ r h. same r (inr h))
-
-  -- it is the same where each session counts for the same
-  pub latest_map : (ss : List Record)
-      → ((r : Record) → In r ss → candidate (test' (f r)) name (f r) ≡ candidate (test r) name r)
-      → latest test' (map f ss) name ≡ latest test ss name
-  latest_map ss same = ap target_of (best_map ss None same)
 
 -- a session that stays counts for the same, and one that is no success for nothing
 counts_as : (r s : Record) (n : ℕ) (name : List ℕ) (b : Bool) → is_success r.state ≡ b → s.parts ≡ r.parts
@@ -91,8 +73,8 @@ module _ (w : World) (law : Lawful w) (order : BootOrder) (mounts : Mounts) wher
       → before steps (step x) name ≡ before w.sessions x name
   before_same x name e =
       let same = (success_stays x e).1 in
-      latest_map step name (λ r. is_success r.state && nat_lt r.activation x.activation)
-      (λ r. is_success r.state && nat_lt r.activation (step x).activation) w.sessions
+      latest_map (λ r. is_success r.state && nat_lt r.activation x.activation)
+      (λ r. is_success r.state && nat_lt r.activation (step x).activation) name step w.sessions
       (λ r h. ap (λ (n : ℕ). candidate (is_success (step r).state && nat_lt (step r).activation n) name (step r)) same
       ∙ counts_as r (step r) x.activation name (is_success r.state) refl (kept r).parts (success_stays r)
       (success_comes r))

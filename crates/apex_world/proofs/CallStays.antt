@@ -38,7 +38,7 @@ use Rattle.apex_world.specs.Lawful.{HaveIds, HaveRollbackSessions}
 use Rattle.apex_world.specs.Report.{committable, at_once, counted, reported, report_trigger, rollbacks_for, failures_of}
 use Rattle.apex_world.specs.Step.{submit, step}
 use Rattle.apex_world.specs.Stepped.{replied, answered, done, refused}
-use Rattle.apex_world.specs.Submit.{pass, admitted, within_scale, sessions_full, store_full, entered, new_session, print_of, id_range, id_taken}
+use Rattle.apex_world.specs.Submit.{pass, admitted, within_scale, sessions_full, store_full, entered, new_session, image_print, id_range, id_taken}
 use Rattle.apex_world.specs.Trigger.{eligible, eligible_for, acting_among, commits, commit_all, acted, triggered}
 use Rattle.apex_world.specs.Watching.{watched, no_observer, first_unknown, is_watching}
 use Rattle.apex_world.specs.World.{World}
@@ -261,7 +261,7 @@ module _ (w : World) (a : Ascend w.sessions) (id : SessionId) (children : List S
 
   entered_follows : (ps : List Package) → admitted w id children parts ≡ Ok ps
       → Follows w.sessions (entered w id children rollback ps).sessions
-  entered_follows ps e = let s = new_session id children rollback ps (print_of w.image) in
+  entered_follows ps e = let s = new_session id children rollback ps (image_print w.image) in
       leads_new Becomes stays w.sessions s a (submit_new w.sessions s (free ps e))
 
   within : (v : World) → Follows w.sessions v.sessions → (o p : Option Refusal)
@@ -390,13 +390,13 @@ module _ (w : World) (ids : HaveIds w.sessions) (undone : HaveRollbackSessions w
       → Follows w.sessions (answered w (o >>= λ x. Ok (record {
         world = record w {
           sessions =
-              committed w.sessions x (print_of w.image);
+              committed w.sessions x (image_print w.image);
         };
         reply = reply.Committed (rollback_id x.id);
       }))).world.sessions
   commit_if id (Err refusal) e = none
   commit_if id (Ok x) e = let (h, f) = chosen w.sessions id x e in
-      commit_becomes w.sessions ids undone x (print_of w.image) h f
+      commit_becomes w.sessions ids undone x (image_print w.image) h f
 
   at_once_follows : (clock : ℕ) (name : List ℕ) (why : Reason)
       → Follows w.sessions (at_once w clock name why).world.sessions
@@ -404,7 +404,7 @@ module _ (w : World) (ids : HaveIds w.sessions) (undone : HaveRollbackSessions w
       let t = report_trigger w clock name why in
       leads_as Waits Becomes w.sessions t.sessions waits_becomes
       (trigger_follows w.sessions ids undone (rollbacks_for why name w.sessions)
-      (asked_ascend w.sessions name why ids.ascend) (among_asked w.sessions name why) (print_of w.image)
+      (asked_ascend w.sessions name why ids.ascend) (among_asked w.sessions name why) (image_print w.image)
       (filter (is_watching w.watches clock name) w.observers))
 
   counted_if : (b : Bool) (clock : ℕ) (name : List ℕ) (why : Reason) (moments : List ℕ)

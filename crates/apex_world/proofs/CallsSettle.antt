@@ -36,7 +36,7 @@ use Rattle.apex_world.specs.Rows.{row_at, rows}
 use Rattle.apex_world.specs.RowsAfter.{settled_row, changes_sessions}
 use Rattle.apex_world.specs.Step.{step}
 use Rattle.apex_world.specs.Stepped.{refused, done, answered}
-use Rattle.apex_world.specs.Submit.{pass, print_of}
+use Rattle.apex_world.specs.Submit.{pass, image_print}
 use Rattle.apex_world.specs.Watching.{is_watching}
 use Rattle.apex_world.specs.World.{World, Failures}
 use Rattle.apex_world.proofs.CallStays.{chosen, among_asked, asked_ascend}
@@ -140,21 +140,21 @@ module _ (w : World) (law : Lawful w) where
 
   commit_settled : (id : SessionId) (o : Result Record Refusal) → committable w.sessions id ≡ o
       → IsSettled w (answered w (o >>= λ x. Ok (record {
-        world = record w { sessions = committed w.sessions x (print_of w.image) };
+        world = record w { sessions = committed w.sessions x (image_print w.image) };
         reply = reply.Committed (rollback_id x.id);
       }))).world
   commit_settled id (Err refusal) e = unchanged_settled
   commit_settled id (Ok x) e =
       let (h, f) = chosen w.sessions id x e in
-      settled_by (committed w.sessions x (print_of w.image))
-      (commit_no_more w.sessions (ordered w law) x (can_commit w law x h f) (print_of w.image)) w.clock w.failures
+      settled_by (committed w.sessions x (image_print w.image))
+      (commit_no_more w.sessions (ordered w law) x (can_commit w law x h f) (image_print w.image)) w.clock w.failures
 
   -- Reports
 
   at_once_settled : (clock : ℕ) (name : List ℕ) (why : Reason) → IsSettled w (at_once w clock name why).world
   at_once_settled clock name why =
       let among = among_asked w.sessions name why in
-      let less = trigger_no_more w.sessions (ordered w law) (print_of w.image) (rollbacks_for why name w.sessions)
+      let less = trigger_no_more w.sessions (ordered w law) (image_print w.image) (rollbacks_for why name w.sessions)
       (asked_ascend w.sessions name why law.ids.ascend)
       (λ x h. can_commit w law x (among x h).0 (among x h).1) (filter (is_watching w.watches clock name) w.observers) in
       settled_by (report_trigger w clock name why).sessions less clock (fin.remove w.failures name)

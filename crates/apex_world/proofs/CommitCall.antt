@@ -20,7 +20,7 @@ use Rattle.apex_world.specs.declared.calls.Reply.TheVariants as reply
 use Rattle.apex_world.specs.Report.{committable, commit}
 use Rattle.apex_world.specs.Running.{Running}
 use Rattle.apex_world.specs.Stepped.{answered}
-use Rattle.apex_world.specs.Submit.{pass, print_of}
+use Rattle.apex_world.specs.Submit.{pass, image_print}
 use Rattle.apex_world.specs.World.{World}
 use Rattle.apex_world.proofs.CallStays.{chosen}
 use Rattle.apex_world.proofs.CommitRuns.{committed_running}
@@ -87,7 +87,7 @@ committable_eligible ss id x e =
 module _ (w : World) (run : Running w) (id : SessionId) where
   commit_if : (o : Result Record Refusal) → committable w.sessions id ≡ o
       → Running (answered w (o >>= λ x. Ok (record {
-        world = record w { sessions = committed w.sessions x (print_of w.image) };
+        world = record w { sessions = committed w.sessions x (image_print w.image) };
         reply = reply.Committed (rollback_id x.id);
       }))).world
   commit_if (Err refusal) e = run

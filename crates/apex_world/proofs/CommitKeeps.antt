@@ -19,7 +19,7 @@ use Rattle.apex_world.specs.declared.calls.ObserverKind.TheVariants.{Fixed, Roll
 use Rattle.apex_world.specs.Lawful.{Lawful}
 use Rattle.apex_world.specs.Rows.{is_staged, is_staged_session, may_happen, has_snapshot, undoes, has_pre_restore}
 use Rattle.apex_world.specs.Running.{Running}
-use Rattle.apex_world.specs.Submit.{print_of}
+use Rattle.apex_world.specs.Submit.{image_print}
 use Rattle.apex_world.specs.Trigger.{acted, acting_among, commits, commit_all, triggered}
 use Rattle.apex_world.specs.World.{World}
 use Rattle.apex_world.proofs.CommitKept.{kept_before}
@@ -144,29 +144,29 @@ module _ (w : World) (law : Lawful w) (x : Record) (h : In x w.sessions) (e : is
 
 -- commits keep what was kept
 pub all_keep : (n : ℕ) (xs : List Record) (w : World) → Running w → AreEligible w.sessions xs
-    → KeepsRows n w.sessions (commit_all (print_of w.image) w.sessions xs)
+    → KeepsRows n w.sessions (commit_all (image_print w.image) w.sessions xs)
 all_keep n [] w run all = keeps_all n w.sessions
 all_keep n (x ∷ xs) w run all =
     let (h, e) = all.each x (inl refl) in
-    let print = print_of w.image in
+    let print = image_print w.image in
     let after = committed w.sessions x print in
     keeps_on n w.sessions after (commit_all print after xs)
     (committed_keeps w run.lawful x h (eligible_available w.sessions x e) print n)
     (all_keep n xs (record w { sessions = after }) (committed_running w run x h e) (rest_eligible w run x h e xs all))
 
 module _ (n : ℕ) (w : World) (run : Running w) (xs : List Record) (all : AreEligible w.sessions xs) where
-  kind_keeps : (k : ObserverKind) → KeepsRows n w.sessions (commit_all (print_of w.image) w.sessions (commits xs k))
+  kind_keeps : (k : ObserverKind) → KeepsRows n w.sessions (commit_all (image_print w.image) w.sessions (commits xs k))
   kind_keeps (Fixed level) = keeps_all n w.sessions
   kind_keeps Rollback = all_keep n xs w run all
 
-  acted_keeps : (o : Option Observer) → KeepsRows n w.sessions (acted w.sessions (print_of w.image) xs o).sessions
+  acted_keeps : (o : Option Observer) → KeepsRows n w.sessions (acted w.sessions (image_print w.image) xs o).sessions
   acted_keeps None = keeps_all n w.sessions
   acted_keeps (Some o) = kind_keeps o.kind
 
 -- a trigger keeps what was kept, whoever acts
 pub triggered_keeps : (n : ℕ) (test : Record → Bool) (w : World) → Running w
     → ((x : Record) → test x ≡ true → is_eligible w.sessions x ≡ true) → (observers : List Observer)
-    → KeepsRows n w.sessions (triggered w.sessions (print_of w.image) (filter test w.sessions) observers).sessions
+    → KeepsRows n w.sessions (triggered w.sessions (image_print w.image) (filter test w.sessions) observers).sessions
 triggered_keeps n test w run passes observers =
     acted_keeps n w run (filter test w.sessions) (filter_eligible test w run.lawful passes)
     (acting_among (filter test w.sessions) observers)

@@ -22,7 +22,7 @@ use Rattle.apex_world.specs.Bounds.{can_be_rolled_back, is_ready_rollback, name_
 use Rattle.apex_world.specs.Lawful.{Lawful, IsRunningImage}
 use Rattle.apex_world.specs.Rows.{undoes, is_staged}
 use Rattle.apex_world.specs.Running.{Running, is_activated, is_of_image, runs}
-use Rattle.apex_world.specs.Submit.{print_of, in_running}
+use Rattle.apex_world.specs.Submit.{image_print, in_running}
 use Rattle.apex_world.specs.World.{World}
 use Rattle.apex_world.proofs.CommitKept.{commit_modules, commit_bounds}
 use Rattle.apex_world.proofs.CommitOne.{leaves, members, was_so}
@@ -63,7 +63,7 @@ eligible_free ss x e r h u s =
 
 -- the fingerprint of what runs
 running_print : (scale : Scale) (o : Option Image) → is_some o ≡ true → IfSome o (IsRunningImage scale)
-    → IsTrue (is_print (print_of o))
+    → IsTrue (is_print (image_print o))
 running_print scale None e is = absurd (false≢true e)
 running_print scale (Some image) e is = is.print
 
@@ -72,7 +72,7 @@ module _ (w : World) (run : Running w) (x : Record) (h : In x w.sessions) (e : i
   law = run.lawful
 
   abbrev print : List ℕ
-  print = print_of w.image
+  print = image_print w.image
 
   abbrev after : List Record
   after = committed w.sessions x print
@@ -150,7 +150,7 @@ module _ (w : World) (run : Running w) (x : Record) (h : In x w.sessions) (e : i
   }
 
   -- the commit of an eligible rollback keeps a world running
-  pub committed_running : Running (record w { sessions = committed w.sessions x (print_of w.image) })
+  pub committed_running : Running (record w { sessions = committed w.sessions x (image_print w.image) })
   committed_running = record {
     lawful = committed_lawful;
     image = run.image;

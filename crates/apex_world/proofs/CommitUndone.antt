@@ -19,6 +19,7 @@ use Rattle.apex_base.proofs.MemberLemmas.{in_map_back}
 use Rattle.apex_base.proofs.SessionLemmas.{of_in}
 use Rattle.apex_world.specs.Lawful.{Lawful, IsRollbackSession, HaveRollbackSessions, is_verified}
 use Rattle.apex_world.specs.World.{World}
+use Rattle.apex_world.proofs.SessionMaps.{latest_map}
 use Rattle.apex_world.proofs.CommitOne.{CommitsTo, Taken, GivesWay, Stays, Leaves, leaves, made, others, members}
 use Rattle.apex_world.proofs.CommitOne.{commits_to, made_apart, same_number, found_after}
 use Rattle.apex_world.proofs.CommitParts.{new_ids}
@@ -53,20 +54,6 @@ module _ (name : List ℕ) where
       → ((r : Record) → In r ss → r.id.0 ≢ s.id.0) → latest test (with_session s ss) name ≡ latest test ss name
   latest_beside test s ss e apart = ap target_of (best_beside test s ss None e apart)
 
-  best_map : (test test' : Record → Bool) (f : Record → Record) (ss : List Record) (b : Option (ℕ × Target))
-      → ((r : Record) → In r ss → candidate (test' (f r)) name (f r) ≡ candidate (test r) name r)
-      → best test' b (map f ss) ≡ best test b ss
-  best_map test test' f [] b same = refl
-  best_map test test' f (x ∷ ss) b same =
-      ap (λ (c : Option (ℕ × Target)). best test' (later b c) (map f ss)) (same x (inl refl))
-      ∙ best_map test test' f ss (later b (candidate (test x) name x)) (λ r h. same r (inr h))
-
-  -- nor do those that are the same candidates
-  pub latest_map : (test test' : Record → Bool) (f : Record → Record) (ss : List Record)
-      → ((r : Record) → In r ss → candidate (test' (f r)) name (f r) ≡ candidate (test r) name r)
-      → latest test' (map f ss) name ≡ latest test ss name
-  latest_map test test' f ss same = ap target_of (best_map test test' f ss None same)
-
 -- a commit makes no success, and undoes none
 pub success_same : (r s : Record) → Leaves r s → is_success s.state ≡ is_success r.state
 success_same r s l =
@@ -99,7 +86,7 @@ module _ (w : World) (law : Lawful w) (x : Record) (h : In x w.sessions) (e : is
       let (r, j, g) = in_map_back (after_commit x) s w.sessions i in
       made_apart w.sessions x print (new_ids w law x h e) r j
       (sym (same_number w.sessions x print (new_ids w law x h e) r) ∙ ap (λ (r : Record). r.id.0) g ∙ f))
-      ∙ latest_map name (until z) (until z') (after_commit x) w.sessions (λ r i.
+      ∙ latest_map (until z) (until z') name (after_commit x) w.sessions (λ r i.
       candidate_same name z z' r (after_commit x r) same (leaves x r (after_commit x r) (commits_to x r)))
 
   parts_before : (z z' : Record) (ps : List Part) → z'.activation ≡ z.activation

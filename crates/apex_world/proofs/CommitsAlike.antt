@@ -15,7 +15,7 @@ use Rattle.apex_world.specs.Lawful.{Lawful}
 use Rattle.apex_world.specs.Report.{committable, commit}
 use Rattle.apex_world.specs.Stepped.{answered}
 use Rattle.apex_world.specs.StoredAlike.{AreAlikeInParts, AreSteppedAlike}
-use Rattle.apex_world.specs.Submit.{print_of}
+use Rattle.apex_world.specs.Submit.{image_print}
 use Rattle.apex_world.specs.Trigger.{commit_all}
 use Rattle.apex_world.specs.World.{World}
 use Rattle.apex_world.proofs.AlikeAfter.{alike_after}
@@ -65,11 +65,11 @@ module _ (w v : World) (a : AreAlikeInParts w v) (law : Lawful w) where
   commit_if : (id : SessionId) (o : Result Record Refusal) → committable w.sessions id ≡ o
       → AreSteppedAlike
       (answered w (o >>= λ x. Ok (record {
-        world = record w { sessions = committed w.sessions x (print_of w.image) };
+        world = record w { sessions = committed w.sessions x (image_print w.image) };
         reply = reply.Committed (rollback_id x.id);
       })))
       (answered (other w v a) (o >>= λ x. Ok (record {
-        world = record (other w v a) { sessions = committed w.sessions x (print_of w.image) };
+        world = record (other w v a) { sessions = committed w.sessions x (image_print w.image) };
         reply = reply.Committed (rollback_id x.id);
       })))
   commit_if id (Err refusal) e = refused_alike w (other w v a) refusal (unchanged w v a)
@@ -77,7 +77,7 @@ module _ (w v : World) (a : AreAlikeInParts w v) (law : Lawful w) where
       let (h, f) = chosen w.sessions id x e in
       record {
         reply = refl;
-        world = once_alike w v a (ordered w law) x (can_commit w law x h f) (print_of w.image);
+        world = once_alike w v a (ordered w law) x (can_commit w law x h f) (image_print w.image);
       }
 
   -- the call

@@ -18,7 +18,7 @@ use Rattle.apex_world.specs.Lawful.{Lawful}
 use Rattle.apex_world.specs.Limits.{weight}
 use Rattle.apex_world.specs.Selection.{submitted_by}
 use Rattle.apex_world.specs.StoredAlike.{AreAlikeInParts}
-use Rattle.apex_world.specs.Submit.{id_taken, submissions_from, print_of, new_session, entered}
+use Rattle.apex_world.specs.Submit.{id_taken, submissions_from, image_print, new_session, entered}
 use Rattle.apex_world.specs.Submit.{store_full}
 use Rattle.apex_world.specs.World.{World}
 use Rattle.apex_world.proofs.AlikeAfter.{no_past_new, target_in, in_target, same_past}
@@ -33,10 +33,10 @@ module _ (w v : World) (a : AreAlikeInParts w v) (law : Lawful w) (law' : Lawful
     (children : List SessionId) (rollback : Bool) (ps : List Package)
     (free : id_taken w.sessions [] (id ∷ children) ≡ None) where
   abbrev s : Record
-  s = new_session id children rollback ps (print_of w.image)
+  s = new_session id children rollback ps (image_print w.image)
 
   abbrev after : List Record
-  after = with_session (new_session id children rollback ps (print_of w.image)) w.sessions
+  after = with_session (new_session id children rollback ps (image_print w.image)) w.sessions
 
   abbrev z : World
   z = other w v a

@@ -18,7 +18,7 @@ use Rattle.apex_world.specs.Follows.{IsNew}
 use Rattle.apex_world.specs.Lawful.{Lawful}
 use Rattle.apex_world.specs.Rows.{is_staged, is_staged_session, may_happen}
 use Rattle.apex_world.specs.StoredAlike.{KeepsPast}
-use Rattle.apex_world.specs.Submit.{id_taken, rollback_of, print_of, new_session}
+use Rattle.apex_world.specs.Submit.{id_taken, rollback_of, image_print, new_session}
 use Rattle.apex_world.specs.World.{World}
 use Rattle.apex_world.proofs.AlikeAfter.{PastStays, like_self}
 use Rattle.apex_world.proofs.KeptLemmas.{AreOrdered, ordered}
@@ -37,7 +37,7 @@ unavailable false = refl
 module _ (w : World) (law : Lawful w) (id : SessionId) (children : List SessionId) (rollback : Bool)
     (ps : List Package) (free : id_taken w.sessions [] (id ∷ children) ≡ None) where
   abbrev s : Record
-  s = new_session id children rollback ps (print_of w.image)
+  s = new_session id children rollback ps (image_print w.image)
 
   abbrev after : List Record
   after = with_session s w.sessions

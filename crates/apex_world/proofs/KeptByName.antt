@@ -1,42 +1,30 @@
 -- Whether a module is kept, by the sessions of its name alone. Callers want `kept_by_name` and `aborted_files_go`.
-use Rattle.std.proofs.Common.{◌≡◌, ◌≢◌, ◌⊎◌, ℕ, true, false, ◌&&◌, ◌||◌, List, map, Some, None, cond, sym, ap, subst}
+use Rattle.std.proofs.Common.{◌≡◌, ℕ, true, ◌&&◌, ◌||◌, List, sym, ap}
 use Rattle.std.proofs.Common.{◌∙◌, refl, inl, inr}
-use Rattle.std.specs.Prelude.{not, nat_lt, Bool}
+use Rattle.std.specs.Prelude.{nat_lt, Bool}
 use Rattle.std.specs.List.{list_any}
 use Rattle.std.specs.Str.{bytes_eq}
-use Rattle.std.proofs.lemmas.Bool.{false≢true, false_from_ne_true, and_parts, and_from, or_cases, or_left, or_right}
-use Rattle.std.proofs.lemmas.Bool.{eq-eqb, cases_eq}
+use Rattle.std.proofs.lemmas.Bool.{and_parts, and_from, or_cases, or_left, or_right}
+use Rattle.std.proofs.lemmas.Bool.{eq-eqb}
 use Rattle.apex_base.specs.declared.numbers.SessionId.{SessionId}
 use Rattle.apex_base.specs.declared.records.Part.{Part}
 use Rattle.apex_base.specs.declared.records.Record.{Record}
-use Rattle.apex_base.specs.declared.records.State.{State}
-use Rattle.apex_base.specs.declared.records.State.TheVariants as state
 use Rattle.apex_base.specs.declared.records.Target.{Target}
 use Rattle.apex_base.specs.declared.records.Target.TheVariants as targets
-use Rattle.apex_base.specs.Commit.{is_waiting}
 use Rattle.apex_base.specs.Held.{is_unfinished, is_undoable, is_standing, is_success, is_available, latest, held, before}
 use Rattle.apex_base.specs.Held.{kept, is_module, is_target}
-use Rattle.apex_base.specs.Keys.{FileOf}
 use Rattle.apex_base.specs.Members.{In}
-use Rattle.apex_base.specs.Sessions.{names, session_of, with_session}
+use Rattle.apex_base.specs.Sessions.{names}
 use Rattle.apex_base.specs.Settled.{stands_for}
-use Rattle.apex_base.proofs.MemberLemmas.{in_map_back, any_in, in_any}
-use Rattle.apex_base.proofs.SessionLemmas.{ascend_with, with_any, with_self, of_found}
-use Rattle.apex_world.specs.Advance.{abort}
+use Rattle.apex_base.proofs.MemberLemmas.{any_in, in_any}
 use Rattle.apex_world.specs.KeptByName.{has_own, had_before, is_kept_for}
 use Rattle.apex_world.specs.Lawful.{Lawful}
-use Rattle.apex_world.specs.Rows.{undoes, row_at}
-use Rattle.apex_world.specs.RowsMoved.{aborted, has_target}
 use Rattle.apex_world.specs.World.{World}
-use Rattle.apex_world.proofs.AbortRows.{abort_rows}
-use Rattle.apex_world.proofs.AlikeAfter.{target_in, in_target}
-use Rattle.apex_world.proofs.HeldModules.{this_module}
-use Rattle.apex_world.proofs.KeptLemmas.{Own, Holds, Backs, kept_back, keeps, names_own, eq_name, success_stands}
+use Rattle.apex_world.proofs.AlikeAfter.{target_in}
+use Rattle.apex_world.proofs.KeptLemmas.{Own, Holds, Backs, kept_back, keeps, names_own, eq_name}
 use Rattle.apex_world.proofs.LatestLemmas.{part_named, named_by, latest_is}
 use Rattle.apex_world.proofs.MovedRows.{tests_agree}
-use Rattle.apex_world.proofs.OpenedSessions.{one_session}
-use Rattle.apex_world.proofs.OwnTargets.{own_at, target_session}
-use Rattle.apex_world.proofs.PartOwners.{owned, same_part_name}
+use Rattle.apex_world.proofs.PartOwners.{same_part_name}
 use Rattle.apex_world.proofs.WorldRows.{same_name}
 
 is_own : (session : SessionId) (part version : ℕ) (t : Target) → t ≡ targets.Module session part version

@@ -19,7 +19,7 @@ use Rattle.apex_world.specs.declared.modules.Package.{Package}
 use Rattle.apex_world.specs.declared.world.Submission.{Submission}
 use Rattle.apex_world.specs.Lawful.{Lawful, HaveModules, IsKept, part_at_place}
 use Rattle.apex_world.specs.Running.{Running}
-use Rattle.apex_world.specs.Submit.{parts_from, submissions_from, print_of, new_session, entered}
+use Rattle.apex_world.specs.Submit.{parts_from, submissions_from, image_print, new_session, entered}
 use Rattle.apex_world.specs.World.{World}
 use Rattle.apex_world.proofs.AdmittedLemmas.{IsAdmitted}
 use Rattle.apex_world.proofs.Found.{of_with}
@@ -40,13 +40,13 @@ module _ (w : World) (run : Running w) (id : SessionId) (children : List Session
   ss = w.sessions
 
   abbrev print : List ℕ
-  print = print_of w.image
+  print = image_print w.image
 
   abbrev new : Record
-  new = new_session id children rollback ps (print_of w.image)
+  new = new_session id children rollback ps (image_print w.image)
 
   abbrev after : List Record
-  after = with_session (new_session id children rollback ps (print_of w.image)) w.sessions
+  after = with_session (new_session id children rollback ps (image_print w.image)) w.sessions
 
   abbrev given : List Submission
   given = submissions_from id 0 ps
@@ -57,7 +57,7 @@ module _ (w : World) (run : Running w) (id : SessionId) (children : List Session
   -- the fingerprint of the image that runs is one
   pub new_printed : IsTrue (is_print print)
   new_printed = let (image, e, of) = image_of w run in
-      subst (λ (o : Option Image). IsTrue (is_print (print_of o))) (sym e) of.print
+      subst (λ (o : Option Image). IsTrue (is_print (image_print o))) (sym e) of.print
 
   -- a part that is there is a session's
   place_session : (session : SessionId) (part : ℕ) (p : Part) → part_at_place ss session part ≡ Some p

@@ -44,7 +44,7 @@ use Rattle.apex_base.specs.Results.{◌>>=◌}
 use Rattle.apex_world.specs.declared.calls.Observer.{Observer}
 use Rattle.apex_world.specs.declared.modules.Package.{Package}
 use Rattle.apex_world.specs.Step.{submit}
-use Rattle.apex_world.specs.Submit.{pass, admitted, entered, new_session, print_of, within_scale, sessions_full, store_full}
+use Rattle.apex_world.specs.Submit.{pass, admitted, entered, new_session, image_print, within_scale, sessions_full, store_full}
 use Rattle.apex_world.specs.Trigger.{Triggered, triggered, eligible}
 use Rattle.apex_world.specs.Watching.{watches_after, lasting}
 use Rattle.apex_world.specs.Follows.{IsKeptAs}
@@ -500,7 +500,7 @@ scaled w v plain plain' (Some refusal) b = plain
 module _ (w : World) (plain : IsPlain w) (id : SessionId) (children : List SessionId) where
   entered_plain : (ps : List Package) → IsPlain (entered w id children false ps)
   entered_plain ps =
-      let s = new_session id children false ps (print_of w.image) in
+      let s = new_session id children false ps (image_print w.image) in
       let with : IsPlain (record w { sessions = with_session s w.sessions; clock = w.clock }) =
       with_plain w s plain (record { kind = refl; rollback = refl }) w.clock in
       record {

@@ -24,7 +24,7 @@ use Rattle.apex_world.specs.Data.{value_at, unknown_module, with_entry, data_ful
 use Rattle.apex_world.specs.Report.{committable, at_once, counted, reported, failures_of}
 use Rattle.apex_world.specs.Step.{step}
 use Rattle.apex_world.specs.Stepped.{Stepped, refused, done, replied, answered}
-use Rattle.apex_world.specs.Submit.{pass, submitted, print_of}
+use Rattle.apex_world.specs.Submit.{pass, submitted, image_print}
 use Rattle.apex_world.specs.Watching.{watched, no_observer, first_unknown}
 use Rattle.apex_world.specs.World.{World}
 use Rattle.apex_base.specs.Tables.{without_value}
@@ -69,7 +69,7 @@ of_commit : (w : World) (o : Result Record Refusal)
     → Unchanged w (answered w (o >>= λ x. Ok (record {
       world = record w {
         sessions =
-            committed w.sessions x (print_of w.image);
+            committed w.sessions x (image_print w.image);
       };
       reply = reply.Committed (rollback_id x.id);
     })))

@@ -24,11 +24,11 @@ use Rattle.apex_world.specs.Report.{failures_or, failures_of, rollbacks_for, rep
 use Rattle.apex_world.specs.Report.{reported, report}
 use Rattle.apex_world.specs.Running.{Running}
 use Rattle.apex_world.specs.Stepped.{answered}
-use Rattle.apex_world.specs.Submit.{pass, print_of}
+use Rattle.apex_world.specs.Submit.{pass, image_print}
 use Rattle.apex_world.specs.Trigger.{eligible, eligible_for, triggered}
 use Rattle.apex_world.specs.Watching.{is_watching}
 use Rattle.apex_world.specs.World.{World, Failures}
-use Rattle.apex_world.proofs.TriggerRuns.{triggered_running}
+use Rattle.apex_world.proofs.TriggerRuns.{elsewhen_running, triggered_running}
 
 -- Moments in their order
 
@@ -107,56 +107,8 @@ less_counted clock failures name c q = subst (λ (o : Option (List ℕ)). AreCou
 pub counting_running : (w : World) → Running w → (clock : ℕ) → IsMillis clock → (failures : Failures)
     → Counted clock failures → Running (record w { failures = failures; clock = clock })
 counting_running w run clock ranged failures counted =
-    let law = run.lawful in
-    record {
-      lawful = record {
-        ranges = record {
-          sessions = law.ranges.sessions;
-          modules = law.ranges.modules;
-          contents = law.ranges.contents;
-          eras = law.ranges.eras;
-          moments = law.ranges.moments;
-          watches = law.ranges.watches;
-          ends = law.ranges.ends;
-          boots = law.ranges.boots;
-          clock = ranged;
-          image = law.ranges.image;
-          observers = law.ranges.observers;
-        };
-        ids = law.ids;
-        parts = law.parts;
-        alone = law.alone;
-        activations = law.activations;
-        causes = law.causes;
-        rollbacks = law.rollbacks;
-        undone = law.undone;
-        modules = record {
-          kept = λ session part version h.
-              let k = law.modules.kept session part version h in
-              record { content = k.content; name = k.name; there = k.there; checks = k.checks; says = k.says };
-          distinct = law.modules.distinct;
-          owned = law.modules.owned;
-        };
-        bounds = record {
-          units = law.bounds.units;
-          weight = law.bounds.weight;
-          contents = law.bounds.contents;
-          eras = law.bounds.eras;
-          undoable = law.bounds.undoable;
-          available = law.bounds.available;
-          waiting = law.bounds.waiting;
-          watches = law.bounds.watches;
-        };
-        begun = law.begun;
-      };
-      image = run.image;
-      sessions = run.sessions;
-      contents = run.contents;
-      watches = run.watches;
-      observers = run.observers;
-      sorted = λ name. (counted name).sorted;
-      past = λ name. (counted name).past;
-    }
+    elsewhen_running w run w.moments run.lawful.ranges.moments run.lawful.begun clock ranged failures
+    (λ name. (counted name).sorted) (λ name. (counted name).past)
 
 -- Reports
 
@@ -168,20 +120,20 @@ module _ (w : World) (run : Running w) (clock : ℕ) (ranged : IsMillis clock) (
   -- the rollbacks that a reason asks for are eligible ones
   for_name : (name : List ℕ) (observers : List Observer)
       → Running (record w {
-        sessions = (triggered w.sessions (print_of w.image) (eligible_for name w.sessions) observers).sessions;
+        sessions = (triggered w.sessions (image_print w.image) (eligible_for name w.sessions) observers).sessions;
       })
   for_name name observers = triggered_running (λ x. is_eligible w.sessions x && names name x) w run
       (λ x e. (and_parts (is_eligible w.sessions x) (names name x) e).0) observers
 
   for_all : (observers : List Observer)
       → Running (record w {
-        sessions = (triggered w.sessions (print_of w.image) (eligible w.sessions) observers).sessions;
+        sessions = (triggered w.sessions (image_print w.image) (eligible w.sessions) observers).sessions;
       })
   for_all observers = triggered_running (is_eligible w.sessions) w run (λ x e. e) observers
 
   asked_running : (why : Reason) (name : List ℕ) (observers : List Observer)
       → Running (record w {
-        sessions = (triggered w.sessions (print_of w.image) (rollbacks_for why name w.sessions) observers).sessions;
+        sessions = (triggered w.sessions (image_print w.image) (rollbacks_for why name w.sessions) observers).sessions;
       })
   asked_running reason.Unknown name observers = for_name name observers
   asked_running reason.NativeCrash name observers = for_all observers

@@ -82,7 +82,7 @@ alone_module text short =
     put_module fin.empty (codes "apex_manifest.json") text empty_module manifest_path short
     (omega (arith, len_more fin.empty (codes "apex_manifest.json") text, len-empty (slice_cmp nat_cmp) (List ℕ)))
 
-short_module : (name : List ℕ) (version : ℕ) → IsTrue (is_name name) → IsVersion version
+pub short_module : (name : List ℕ) (version : ℕ) → IsTrue (is_name name) → IsVersion version
     → IsModule (short_form name version)
 short_module name version is range =
     let m = alone (short_manifest name version) in

@@ -24,7 +24,7 @@ use Rattle.apex_world.specs.Lawful.{Lawful, part_at_place}
 use Rattle.apex_world.specs.Rows.{row_at, rows}
 use Rattle.apex_world.specs.RowsAfter.{still, settled_row, package_file, put_row}
 use Rattle.apex_world.specs.Selection.{submitted_by}
-use Rattle.apex_world.specs.Submit.{id_taken, parts_from, submissions_from, print_of, new_session, entered}
+use Rattle.apex_world.specs.Submit.{id_taken, parts_from, submissions_from, image_print, new_session, entered}
 use Rattle.apex_world.specs.World.{World}
 use Rattle.apex_world.proofs.AlikeAfter.{target_in, in_target}
 use Rattle.apex_world.proofs.EnteredModules.{target_session, own_target}
@@ -82,10 +82,10 @@ no_file false = refl
 module _ (w : World) (law : Lawful w) (id : SessionId) (children : List SessionId) (rollback : Bool)
     (ps : List Package) (free : id_taken w.sessions [] (id ∷ children) ≡ None) where
   abbrev new : Record
-  new = new_session id children rollback ps (print_of w.image)
+  new = new_session id children rollback ps (image_print w.image)
 
   abbrev after : List Record
-  after = with_session (new_session id children rollback ps (print_of w.image)) w.sessions
+  after = with_session (new_session id children rollback ps (image_print w.image)) w.sessions
 
   abbrev given : List Submission
   given = submissions_from id 0 ps

@@ -23,7 +23,7 @@ use Rattle.apex_world.specs.Limits.{units, weight}
 use Rattle.apex_world.specs.Running.{Running, is_of_image}
 use Rattle.apex_world.specs.Step.{submit}
 use Rattle.apex_world.specs.Stepped.{replied}
-use Rattle.apex_world.specs.Submit.{submissions_from, print_of, new_session, entered, sessions_full, store_full}
+use Rattle.apex_world.specs.Submit.{submissions_from, image_print, new_session, entered, sessions_full, store_full}
 use Rattle.apex_world.specs.Submit.{pass, admitted, within_scale}
 use Rattle.apex_world.specs.World.{World}
 use Rattle.apex_world.proofs.AdmittedLemmas.{IsAdmitted, admitted_is}
@@ -53,13 +53,13 @@ module _ (w : World) (run : Running w) (id : SessionId) (children : List Session
   ss = w.sessions
 
   abbrev print : List ℕ
-  print = print_of w.image
+  print = image_print w.image
 
   abbrev new : Record
-  new = new_session id children rollback ps (print_of w.image)
+  new = new_session id children rollback ps (image_print w.image)
 
   abbrev after : List Record
-  after = with_session (new_session id children rollback ps (print_of w.image)) w.sessions
+  after = with_session (new_session id children rollback ps (image_print w.image)) w.sessions
 
   abbrev given : List Submission
   given = submissions_from id 0 ps

@@ -18,7 +18,7 @@ use Rattle.apex_world.specs.declared.modules.Package.{Package}
 use Rattle.apex_world.specs.declared.world.Submission.{Submission}
 use Rattle.apex_world.specs.Lawful.{Lawful}
 use Rattle.apex_world.specs.Limits.{kind_units, target_weight, units, weight}
-use Rattle.apex_world.specs.Submit.{id_taken, parts_from, submissions_from, kind_of, print_of, new_session, entered}
+use Rattle.apex_world.specs.Submit.{id_taken, parts_from, submissions_from, kind_of, image_print, new_session, entered}
 use Rattle.apex_world.specs.World.{World}
 use Rattle.apex_world.proofs.AlikeAfter.{target_in, in_target}
 use Rattle.apex_world.proofs.CommitKept.{sum_with}
@@ -62,10 +62,10 @@ tests_same false false f g = refl
 module _ (w : World) (law : Lawful w) (id : SessionId) (children : List SessionId) (rollback : Bool)
     (ps : List Package) (free : id_taken w.sessions [] (id ∷ children) ≡ None) where
   abbrev new : Record
-  new = new_session id children rollback ps (print_of w.image)
+  new = new_session id children rollback ps (image_print w.image)
 
   abbrev after : List Record
-  after = with_session (new_session id children rollback ps (print_of w.image)) w.sessions
+  after = with_session (new_session id children rollback ps (image_print w.image)) w.sessions
 
   abbrev given : List Submission
   given = submissions_from id 0 ps

@@ -1,6 +1,6 @@
 -- Commits one after another, and triggers, keep worlds running. Callers want `all_running`, `triggered_running`,
--- `forgetting_running`, `looping_running` and `boot_running`.
-use Rattle.std.proofs.Common.{◌≡◌, ◌≢◌, ℕ, ◌<◌, Bool, true, false, cond, ◌&&◌, List, [], ◌∷◌, filter, Option, Some}
+-- `elsewhen_running`, `forgetting_running`, `looping_running` and `boot_running`.
+use Rattle.std.proofs.Common.{◌≡◌, ◌≢◌, ℕ, ◌≤◌, ◌<◌, Bool, true, false, cond, ◌&&◌, List, [], ◌∷◌, filter, Option, Some}
 use Rattle.std.proofs.Common.{None, sym, ap, subst, ◌∙◌, refl, inl, inr, arith}
 use Rattle.std.specs.Prelude.{not}
 use Rattle.std.specs.List.{list_any}
@@ -11,6 +11,7 @@ use Rattle.apex_base.specs.declared.records.Record.{Record}
 use Rattle.apex_base.specs.Commit.{committed, after_commit}
 use Rattle.apex_base.specs.Held.{is_undoable, is_available}
 use Rattle.apex_base.specs.Members.{In, EachPair}
+use Rattle.apex_base.specs.Ranges.{IsMillis}
 use Rattle.apex_base.specs.Rollbacks.{is_eligible, is_in_use}
 use Rattle.apex_base.specs.Sessions.{shares}
 use Rattle.apex_base.specs.Windows.{is_looping}
@@ -22,11 +23,12 @@ use Rattle.apex_world.specs.declared.calls.ObserverKind.{ObserverKind}
 use Rattle.apex_world.specs.declared.calls.ObserverKind.TheVariants.{Fixed, Rollback}
 use Rattle.apex_world.specs.Boot.{loop_trigger, after_loop, started, boot_world}
 use Rattle.apex_world.specs.Lawful.{Lawful}
+use Rattle.apex_world.specs.Report.{failures_of}
 use Rattle.apex_world.specs.Running.{Running}
 use Rattle.apex_world.specs.Selection.{Mounts}
-use Rattle.apex_world.specs.Submit.{print_of}
+use Rattle.apex_world.specs.Submit.{image_print}
 use Rattle.apex_world.specs.Trigger.{eligible, acted, acting_among, commits, commit_all, triggered}
-use Rattle.apex_world.specs.World.{World}
+use Rattle.apex_world.specs.World.{World, Failures, boots}
 use Rattle.apex_world.proofs.CommitOne.{CommitsTo, Taken, GivesWay, Stays, leaves, members, was_so, commits_to}
 use Rattle.apex_world.proofs.CommitOne.{stays_there}
 use Rattle.apex_world.proofs.CommitParts.{new_ids}
@@ -44,7 +46,7 @@ module _ (w : World) (run : Running w) (x : Record) (h : In x w.sessions) (e : i
   law = run.lawful
 
   abbrev print : List ℕ
-  print = print_of w.image
+  print = image_print w.image
 
   abbrev after : List Record
   after = committed w.sessions x print
@@ -97,11 +99,11 @@ module _ (w : World) (run : Running w) (x : Record) (h : In x w.sessions) (e : i
 
 -- any number of commits, each of another session
 pub all_running : (xs : List Record) (w : World) → Running w → AreEligible w.sessions xs
-    → Running (record w { sessions = commit_all (print_of w.image) w.sessions xs })
+    → Running (record w { sessions = commit_all (image_print w.image) w.sessions xs })
 all_running [] w run all = run
 all_running (x ∷ xs) w run all =
     let (h, e) = all.each x (inl refl) in
-    all_running xs (record w { sessions = committed w.sessions x (print_of w.image) }) (committed_running w run x h e)
+    all_running xs (record w { sessions = committed w.sessions x (image_print w.image) }) (committed_running w run x h e)
     (rest_eligible w run x h e xs all)
 
 -- those that pass a test
@@ -116,31 +118,35 @@ filter_eligible test w law passes = record {
 
 module _ (w : World) (run : Running w) (xs : List Record) (all : AreEligible w.sessions xs) where
   kind_running : (k : ObserverKind)
-      → Running (record w { sessions = commit_all (print_of w.image) w.sessions (commits xs k) })
+      → Running (record w { sessions = commit_all (image_print w.image) w.sessions (commits xs k) })
   kind_running (Fixed level) = run
   kind_running Rollback = all_running xs w run all
 
   acted_running : (o : Option Observer)
-      → Running (record w { sessions = (acted w.sessions (print_of w.image) xs o).sessions })
+      → Running (record w { sessions = (acted w.sessions (image_print w.image) xs o).sessions })
   acted_running None = run
   acted_running (Some o) = kind_running o.kind
 
   eligible_running : (observers : List Observer)
-      → Running (record w { sessions = (triggered w.sessions (print_of w.image) xs observers).sessions })
+      → Running (record w { sessions = (triggered w.sessions (image_print w.image) xs observers).sessions })
   eligible_running observers = acted_running (acting_among xs observers)
 
 -- a trigger, whoever acts
 pub triggered_running : (test : Record → Bool) (w : World) → Running w
     → ((x : Record) → test x ≡ true → is_eligible w.sessions x ≡ true) → (observers : List Observer)
     → Running (record w {
-      sessions = (triggered w.sessions (print_of w.image) (filter test w.sessions) observers).sessions;
+      sessions = (triggered w.sessions (image_print w.image) (filter test w.sessions) observers).sessions;
     })
 triggered_running test w run passes observers =
     eligible_running w run (filter test w.sessions) (filter_eligible test w run.lawful passes) observers
 
--- The moments of boots can be forgotten
-pub forgetting_running : (w : World) → Running w → Running (record w { moments = [] })
-forgetting_running w run =
+-- Other moments, another clock and other failures
+pub elsewhen_running : (w : World) → Running w → (moments : List ℕ) → ((m : ℕ) → In m moments → IsMillis m)
+    → (boots w ≡ 0 → moments ≡ []) → (clock : ℕ) → IsMillis clock → (failures : Failures)
+    → ((name : List ℕ) → EachPair (λ m n. m ≤ n) (failures_of failures name))
+    → ((name : List ℕ) (m : ℕ) → In m (failures_of failures name) → m ≤ clock)
+    → Running (record w { moments = moments; clock = clock; failures = failures })
+elsewhen_running w run moments are_ranged begun clock ranged failures sorted past =
     let law = run.lawful in
     record {
       lawful = record {
@@ -149,11 +155,11 @@ forgetting_running w run =
           modules = law.ranges.modules;
           contents = law.ranges.contents;
           eras = law.ranges.eras;
-          moments = λ m h. absurd h;
+          moments = are_ranged;
           watches = law.ranges.watches;
           ends = law.ranges.ends;
           boots = law.ranges.boots;
-          clock = law.ranges.clock;
+          clock = ranged;
           image = law.ranges.image;
           observers = law.ranges.observers;
         };
@@ -181,21 +187,27 @@ forgetting_running w run =
           waiting = law.bounds.waiting;
           watches = law.bounds.watches;
         };
-        begun = λ e. refl;
+        begun = begun;
       };
       image = run.image;
       sessions = run.sessions;
       contents = run.contents;
       watches = run.watches;
       observers = run.observers;
-      sorted = run.sorted;
-      past = run.past;
+      sorted = sorted;
+      past = past;
     }
+
+-- the moments of boots can be forgotten
+pub forgetting_running : (w : World) → Running w → Running (record w { moments = [] })
+forgetting_running w run =
+    elsewhen_running w run [] (λ m h. absurd h) (λ e. refl) w.clock run.lawful.ranges.clock w.failures run.sorted
+    run.past
 
 -- a boot loop: a trigger for all rollbacks, after which the moments are forgotten
 pub looping_running : (w : World) → Running w → (observers : List Observer)
     → Running (record w {
-      sessions = (triggered w.sessions (print_of w.image) (eligible w.sessions) observers).sessions;
+      sessions = (triggered w.sessions (image_print w.image) (eligible w.sessions) observers).sessions;
       moments = [];
     })
 looping_running w run observers =

@@ -23,7 +23,7 @@ use Rattle.apex_world.specs.Report.{report}
 use Rattle.apex_world.specs.Running.{Running}
 use Rattle.apex_world.specs.Stepped.{answered}
 use Rattle.apex_world.specs.StoredAlike.{AreAlikeInParts, AreSteppedAlike}
-use Rattle.apex_world.specs.Submit.{pass, print_of}
+use Rattle.apex_world.specs.Submit.{pass, image_print}
 use Rattle.apex_world.specs.Trigger.{acting_among, commits, commit_all, acted, triggered}
 use Rattle.apex_world.specs.Watching.{is_watching}
 use Rattle.apex_world.specs.World.{World, Failures}
@@ -117,7 +117,7 @@ module _ (w v : World) (a : AreAlikeInParts w v) (run : Running w) (run' : Runni
       let t = report_trigger w clock name why in
       let xs = rollbacks_for why name w.sessions in
       let among = among_asked w.sessions name why in
-      let then = triggered_alike w v a (ordered w run.lawful) (print_of w.image) xs
+      let then = triggered_alike w v a (ordered w run.lawful) (image_print w.image) xs
       (asked_ascend w.sessions name why run.lawful.ids.ascend)
       (λ x h. can_commit w run.lawful x (among x h).0 (among x h).1)
       (filter (is_watching w.watches clock name) w.observers) in

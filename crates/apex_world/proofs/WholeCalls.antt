@@ -48,12 +48,13 @@ use Rattle.apex_world.specs.Step.{step}
 use Rattle.apex_world.specs.Stepped.{replied, answered, refused, done}
 use Rattle.apex_world.specs.Submit.{pass, id_range, is_caller_id, id_taken, is_taken, wrong_count, packages_from}
 use Rattle.apex_world.specs.Submit.{twice_named, first_of, not_preinstalled, key_differs, overlap, downgrade, admitted}
-use Rattle.apex_world.specs.Submit.{entered, new_session, print_of, within_scale, sessions_full, store_full}
+use Rattle.apex_world.specs.Submit.{entered, new_session, image_print, within_scale, sessions_full, store_full}
 use Rattle.apex_world.specs.Submit.{preinstalled_version}
 use Rattle.apex_world.specs.Trigger.{triggered}
 use Rattle.apex_world.specs.Watching.{no_observer, first_unknown, watched, is_watching}
 use Rattle.apex_world.specs.Wholeness.{IsActiveFrom, IsOnData, IsWhole}
 use Rattle.apex_world.specs.World.{World}
+use Rattle.apex_world.proofs.KeptLemmas.{undoable_stands}
 use Rattle.apex_world.proofs.Found.{of_with, of_other, of_map}
 use Rattle.apex_world.proofs.HeldLemmas.{stands_for, held_beside, held_again, held_map}
 use Rattle.apex_world.proofs.Lasting.{lasts, Lasts, commit_lasts}
@@ -89,16 +90,6 @@ goes_on ss ts us a b = record {
   held = λ name. b.held name ∙ a.held name;
   undone = b.undone;
 }
-
-undoable_stands : (s : State) → is_undoable s ≡ true → is_standing s ≡ true
-undoable_stands state.Verified e = absurd (cc)
-undoable_stands state.Staged e = absurd (cc)
-undoable_stands state.Activated e = refl
-undoable_stands state.ActivationFailed e = absurd (cc)
-undoable_stands state.Success e = absurd (cc)
-undoable_stands state.RevertInProgress e = refl
-undoable_stands state.Reverted e = absurd (cc)
-undoable_stands state.Aborted e = absurd (cc)
 
 standing_lasts : (s : State) → is_standing s ≡ true → lasts s ≡ true
 standing_lasts state.Verified e = absurd (cc)
@@ -572,7 +563,7 @@ module _ (w : World) (u : Undone w.sessions) where
       replied_two (sessions_full v) (store_full v) v (record {
         active = refl;
         image = refl;
-        sessions = goes_new (new_session id children rollback ps (print_of w.image)) w.sessions refl
+        sessions = goes_new (new_session id children rollback ps (image_print w.image)) w.sessions refl
             (omega (arith, low)) (free_id w.sessions id free) u;
       })
 
@@ -614,7 +605,7 @@ module _ (w : World) (u : Undone w.sessions) where
       → GoesOn w (answered w (o >>= λ x. Ok (record {
         world = record w {
           sessions = committed w.sessions x
-              (print_of w.image);
+              (image_print w.image);
         };
         reply = reply.Committed (rollback_id x.id);
       }))).world
@@ -625,9 +616,9 @@ module _ (w : World) (u : Undone w.sessions) where
       record {
         active = refl;
         image = refl;
-        sessions = lasts_goes w.sessions (committed w.sessions x (print_of w.image))
-            (commit_lasts w.sessions x (print_of w.image) (clear_available w.sessions x u h available))
-            (undone_commit w.sessions x (print_of w.image) u (available_small w.sessions x u h available) (x, h, refl));
+        sessions = lasts_goes w.sessions (committed w.sessions x (image_print w.image))
+            (commit_lasts w.sessions x (image_print w.image) (clear_available w.sessions x u h available))
+            (undone_commit w.sessions x (image_print w.image) u (available_small w.sessions x u h available) (x, h, refl));
       }
 
   drop_if : (name key : List ℕ) (o : Result (List ℕ) Refusal)
@@ -657,12 +648,12 @@ module _ (w : World) (u : Undone w.sessions) where
   at_once_goes clock name why =
       let xs = rollbacks_for why name w.sessions in
       let os = filter (is_watching w.watches clock name) w.observers in
-      let t = triggered w.sessions (print_of w.image) xs os in
+      let t = triggered w.sessions (image_print w.image) xs os in
       record {
         active = refl;
         image = refl;
-        sessions = lasts_goes w.sessions t.sessions (available_last w.sessions (print_of w.image) xs u
-            (asked_available why name) os) (trigger_undone w.sessions (print_of w.image) xs u
+        sessions = lasts_goes w.sessions t.sessions (available_last w.sessions (image_print w.image) xs u
+            (asked_available why name) os) (trigger_undone w.sessions (image_print w.image) xs u
             (asked_available why name) os);
       }
 

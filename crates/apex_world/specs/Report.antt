@@ -13,7 +13,7 @@ use Rattle.apex_base.specs.Windows.{is_failing}
 use Rattle.apex_world.specs.declared.calls.Reply.TheVariants as reply
 use Rattle.apex_world.specs.Data.{unknown_module}
 use Rattle.apex_world.specs.Stepped.{Stepped, answered}
-use Rattle.apex_world.specs.Submit.{pass, print_of}
+use Rattle.apex_world.specs.Submit.{pass, image_print}
 use Rattle.apex_world.specs.Trigger.{Triggered, eligible, eligible_for, triggered}
 use Rattle.apex_world.specs.Watching.{is_watching}
 use Rattle.apex_world.specs.World.{World, Failures, empty_world}
@@ -33,7 +33,7 @@ committable sessions id = do
 abbrev pub commit : World → SessionId → Stepped
 commit w id = answered w do
   x ← committable w.sessions id
-  Ok (record { world = record w { sessions = committed w.sessions x (print_of w.image) }; reply = reply.Committed (rollback_id x.id) })
+  Ok (record { world = record w { sessions = committed w.sessions x (image_print w.image) }; reply = reply.Committed (rollback_id x.id) })
 
 -- Report
 
@@ -55,7 +55,7 @@ rollbacks_for reason.AppNotResponding name sessions = eligible_for name sessions
 
 -- those who watch the name may act
 abbrev pub report_trigger : World → ℕ → List ℕ → Reason → Triggered
-report_trigger w clock name why = triggered w.sessions (print_of w.image) (rollbacks_for why name w.sessions) (filter (is_watching w.watches clock name) w.observers)
+report_trigger w clock name why = triggered w.sessions (image_print w.image) (rollbacks_for why name w.sessions) (filter (is_watching w.watches clock name) w.observers)
 
 -- the name's failures are forgotten
 abbrev pub after_trigger : World → ℕ → List ℕ → Triggered → Stepped

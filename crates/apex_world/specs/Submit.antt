@@ -155,9 +155,9 @@ rollback_of true = Some Enabling
 rollback_of false = None
 
 -- the fingerprint of the running image
-abbrev pub print_of : Option Image → List ℕ
-print_of None = []
-print_of (Some image) = image.print
+abbrev pub image_print : Option Image → List ℕ
+image_print None = []
+image_print (Some image) = image.print
 
 -- a new session of a build
 abbrev pub new_session : SessionId → List SessionId → Bool → List Package → List ℕ → Record
@@ -177,7 +177,7 @@ new_session id children rollback parts print = record {
 -- the world with it
 abbrev pub entered : World → SessionId → List SessionId → Bool → List Package → World
 entered w id children rollback parts = record w {
-  sessions = with_session (new_session id children rollback parts (print_of w.image)) w.sessions;
+  sessions = with_session (new_session id children rollback parts (image_print w.image)) w.sessions;
   modules = w.modules ++ submissions_from id 0 parts;
 }
 

@@ -2,7 +2,7 @@
 ghost use Rattle.std.specs.Prelude.{◌≡◌, ◌≤◌, ◌↔◌, codes, IsTrue, IsOk, IfOk, Ok, Some, option_map};
 ghost use Rattle.std.specs.FinMap as fin;
 ghost use Rattle.apex_base.specs.Answers.{Answers};
-ghost use Rattle.apex_base.specs.Modules.{module_weight};
+ghost use Rattle.apex_base.specs.Modules.{IsModule, module_weight};
 ghost use Rattle.module_digest.specs.Listing.{listing};
 ghost use Rattle.apex_world.specs.Soundness.{manifest_in, checked, is_sound, key_of, is_same_key, short_form};
 
@@ -148,6 +148,7 @@ impl SharedModule {
     pub fn weight(&self) -> u64
         ensures weight { result ≡ module_weight self.now }
         ensures small { result ≤ 67125248 }
+        ensures whole { IsModule self.now }
     {
         match &self.form {
             Form::Short { name, version } => short_weight(name, *version),
@@ -184,6 +185,7 @@ enum Form {
 fn short_weight(name: &Name, version: Version) -> u64
     ensures weight { result ≡ module_weight (short_form name.now version) }
     ensures small { result ≤ 67125248 }
+    ensures whole { IsModule (short_form name.now version) }
 {
     let mut buffer = Buffer::new();
     let digits = buffer.format(version.number()).len();

@@ -2,7 +2,6 @@
 #![tactic(auto)]
 
 mod changes;
-mod held;
 mod key;
 mod laws;
 mod naming;

@@ -5,9 +5,8 @@ ghost use Rattle.package_store.specs.Named.{note_active, note_backup, note_name,
 ghost use Rattle.package_store.specs.Settled.{HaveParts};
 
 use crate::changes::Changes;
-use crate::held::{before, held};
 use crate::key::{ACTIVE, BACKUP, name_key, target_row};
-use apex_base::{Name, Record};
+use apex_base::{Name, Record, before, held};
 use std::alloc::{AllocError, Global};
 
 /// What all sessions call for.

@@ -12,10 +12,9 @@ ghost use Rattle.package_store.specs.Named.{note_row, resettled};
 ghost use Rattle.package_store.specs.Settled.{settled_value, file_stays, IsChange, HaveParts};
 
 use crate::changes::Changes;
-use crate::held::{is_target, kept};
 use crate::key::{ACTIVE, BACKUP, FILE};
 use crate::naming::name_changes;
-use apex_base::{Bytes, Record, SessionId, Target};
+use apex_base::{Bytes, Record, SessionId, Target, is_target, kept};
 use row_codec::Row;
 use std::alloc::{AllocError, Global};
 use std::collections::BTreeMap;

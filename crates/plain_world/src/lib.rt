@@ -3,7 +3,6 @@
 #![tactic(auto)]
 
 mod boot;
-mod held;
 mod limits;
 mod running;
 mod selection;

@@ -4,8 +4,7 @@ ghost use Rattle.std.specs.List.{list_any, sum_by};
 ghost use Rattle.apex_base.specs.Held.{is_module, is_target};
 ghost use Rattle.apex_world.specs.Limits.{kind_units, units_of, target_weight, weight_of};
 
-use crate::held::kept;
-use apex_base::{Kind, Record, SessionId, Target};
+use apex_base::{Kind, Record, SessionId, Target, kept};
 use apex_world::Submission;
 use std::alloc::{AllocError, Global};
 

@@ -7,9 +7,8 @@ ghost use Rattle.apex_world.specs.Selection.{preinstalled, submitted_by, preinst
 ghost use Rattle.apex_world.specs.Selection.{target_case, case_of, cause_of, fallback, choice, pick_of, with_pick};
 ghost use Rattle.apex_world.specs.Selection.{chosen};
 
-use crate::held::held;
 use apex_base::{
-    Case, Cause, Mounter, Name, Part, Pick, Place, Record, SessionId, Target, Version,
+    Case, Cause, Mounter, Name, Part, Pick, Place, Record, SessionId, Target, Version, held,
 };
 use apex_world::{Image, Package, SharedModule, Submission};
 use std::alloc::{AllocError, Global};

@@ -4,7 +4,6 @@
 mod alone;
 mod boots;
 mod laws;
-mod reading;
 mod rows;
 mod sessions;
 #[cfg(test)]

@@ -19,6 +19,7 @@ use Rattle.apex_world.proofs.DecidedIds.{parts_decide, caller_ids_decide}
 use Rattle.apex_world.proofs.DecidedPeers.{activation_decides, after_decides, cause_decides, rollback_decides, IsAfter}
 use Rattle.apex_world.proofs.DecidedRollbacks.{undone_decide}
 use Rattle.apex_world.proofs.DecidedTests.{every}
+use Rattle.apex_world.proofs.KeptLemmas.{stands_activated, success_stands, undoable_stands}
 use Rattle.session_check.specs.declared.marks.Which.TheVariants.{Unfinished, Available, Activated}
 use Rattle.session_check.specs.declared.marks.Mark.{Mark}
 use Rattle.session_check.specs.Apart.{AreApart}
@@ -53,38 +54,8 @@ all_after ss = every _ (λ r. IsAfter ss r.activation r.kind) ss (λ r i. after_
 
 -- A session that stands was activated
 
-standing_some : (s : State) → is_standing s ≡ true → never_activated s ≡ false
-standing_some state.Verified e = absurd (cc)
-standing_some state.Staged e = absurd (cc)
-standing_some state.Activated e = refl
-standing_some state.ActivationFailed e = absurd (cc)
-standing_some state.Success e = refl
-standing_some state.RevertInProgress e = refl
-standing_some state.Reverted e = absurd (cc)
-standing_some state.Aborted e = absurd (cc)
-
-undoable_stands : (s : State) → is_undoable s ≡ true → is_standing s ≡ true
-undoable_stands state.Verified e = absurd (cc)
-undoable_stands state.Staged e = absurd (cc)
-undoable_stands state.Activated e = refl
-undoable_stands state.ActivationFailed e = absurd (cc)
-undoable_stands state.Success e = absurd (cc)
-undoable_stands state.RevertInProgress e = refl
-undoable_stands state.Reverted e = absurd (cc)
-undoable_stands state.Aborted e = absurd (cc)
-
-success_stands : (s : State) → is_success s ≡ true → is_standing s ≡ true
-success_stands state.Verified e = absurd (cc)
-success_stands state.Staged e = absurd (cc)
-success_stands state.Activated e = absurd (cc)
-success_stands state.ActivationFailed e = absurd (cc)
-success_stands state.Success e = refl
-success_stands state.RevertInProgress e = absurd (cc)
-success_stands state.Reverted e = absurd (cc)
-success_stands state.Aborted e = absurd (cc)
-
 stands_some : (boots : ℕ) (r : Record) → HasActivation boots r → is_standing r.state ≡ true → r.activation ≢ 0
-stands_some boots r h e zero = let low = h.some (standing_some r.state e) in omega (arith, low, zero)
+stands_some boots r h e zero = let low = h.some (stands_activated r.state e) in omega (arith, low, zero)
 
 -- activated sessions are marked
 counted : (n : ℕ) → Decides (not (is_zero n)) (n ≢ 0)

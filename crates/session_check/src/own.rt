@@ -100,6 +100,7 @@ fn have_versions(parts: &[Part]) -> bool
         .all(|p| is_same_version(p.version, target_version(p.target)))
 }
 
+/// The version of a target's module.
 pub(crate) fn target_version(target: Target) -> Option<Version>
     ensures { result ≡ target_version target }
 {
@@ -109,6 +110,7 @@ pub(crate) fn target_version(target: Target) -> Option<Version>
     }
 }
 
+/// Whether both are one version, or neither is any.
 pub(crate) fn is_same_version(a: Option<Version>, b: Option<Version>) -> bool
     ensures { result ≡ is_same_version a b }
 {
@@ -176,6 +178,7 @@ fn is_enabling(rollback: Option<RollbackState>) -> bool
     matches!(rollback, Some(RollbackState::Enabling))
 }
 
+/// Whether the rollback was committed.
 pub(crate) fn is_committed(rollback: Option<RollbackState>) -> bool
     ensures { result ≡ is_committed rollback }
 {

@@ -17,3 +17,4 @@ pub use apex_base::{Move, Record, State, moved};
 pub use decode::decode_record;
 pub use encode::encode_record;
 pub use laws::spelling_undoes_reading;
+pub use reading::{byte_at, moment_at, short_at, u32_at, u64_at};

@@ -7,6 +7,7 @@ ghost use Rattle.apex_base.specs.Spelling.{name_at, print_at, moment_at};
 
 use apex_base::{Millis, Name, Print};
 
+/// One byte, and what follows it, or None at the end.
 pub fn byte_at(bytes: &[u8]) -> Option<(u8, &[u8])>
     ensures { option_map (λ found. (found.0, found.1.now)) result ≡ byte_at bytes.now }
 {
@@ -16,6 +17,7 @@ pub fn byte_at(bytes: &[u8]) -> Option<(u8, &[u8])>
     }
 }
 
+/// Four bytes, the first of which weighs most, and what follows them. None if there are fewer.
 #[tactic(auto, unfolding(apex_base::specs::Reading::number_at, apex_base::specs::Reading::bytes_at))]
 pub fn u32_at(bytes: &[u8]) -> Option<(u32, &[u8])>
     ensures { option_map (λ found. (found.0, found.1.now)) result ≡ number_at w32 bytes.now }
@@ -24,6 +26,7 @@ pub fn u32_at(bytes: &[u8]) -> Option<(u32, &[u8])>
     Some((u32::from_be_bytes(*digits), rest))
 }
 
+/// Eight bytes, the first of which weighs most, and what follows them. None if there are fewer.
 #[tactic(auto, unfolding(apex_base::specs::Reading::number_at, apex_base::specs::Reading::bytes_at))]
 pub fn u64_at(bytes: &[u8]) -> Option<(u64, &[u8])>
     ensures { option_map (λ found. (found.0, found.1.now)) result ≡ number_at w64 bytes.now }
@@ -39,8 +42,9 @@ fn bytes_at(n: usize, bytes: &[u8]) -> Option<(&[u8], &[u8])>
     bytes.split_at_checked(n)
 }
 
+/// A text after its length in one byte, and what follows it. None if there are fewer bytes.
 #[tactic(auto, unfolding(apex_base::specs::Reading::short_at))]
-fn short_at(bytes: &[u8]) -> Option<(&[u8], &[u8])>
+pub fn short_at(bytes: &[u8]) -> Option<(&[u8], &[u8])>
     ensures { option_map (λ found. (found.0.now, found.1.now)) result ≡ short_at bytes.now }
 {
     match bytes {
@@ -49,6 +53,7 @@ fn short_at(bytes: &[u8]) -> Option<(&[u8], &[u8])>
     }
 }
 
+/// A name after its length in one byte, and what follows it. None if the bytes are no name, or too few.
 #[tactic(auto, unfolding(apex_base::specs::Spelling::name_at))]
 pub fn name_at(bytes: &[u8]) -> Option<(Name, &[u8])>
     ensures { option_map (λ found. (found.0, found.1.now)) result ≡ name_at bytes.now }
@@ -58,6 +63,7 @@ pub fn name_at(bytes: &[u8]) -> Option<(Name, &[u8])>
     Some((name, rest))
 }
 
+/// A fingerprint after its length in one byte, and what follows it. None if the bytes are none, or too few.
 #[tactic(auto, unfolding(apex_base::specs::Spelling::print_at))]
 pub fn print_at(bytes: &[u8]) -> Option<(Print, &[u8])>
     ensures { option_map (λ found. (found.0, found.1.now)) result ≡ print_at bytes.now }
@@ -67,6 +73,7 @@ pub fn print_at(bytes: &[u8]) -> Option<(Print, &[u8])>
     Some((print, rest))
 }
 
+/// A moment in eight bytes, and what follows it. None if it is out of range, or there are fewer.
 #[tactic(auto, unfolding(apex_base::specs::Spelling::moment_at))]
 pub fn moment_at(bytes: &[u8]) -> Option<(Millis, &[u8])>
     ensures { option_map (λ found. (found.0, found.1.now)) result ≡ moment_at bytes.now }

@@ -15,6 +15,8 @@ pub struct Units {
     pub parts: Vec<Part>,
 }
 
+/// `count` parts, each after the id of its child, of which there are `few`, and what follows them. None if the bytes spell
+/// no such parts. Fails only if memory runs out.
 pub fn units_at(
     alloc: Global,
     few: u8,

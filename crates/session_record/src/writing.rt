@@ -12,24 +12,28 @@ fn push_bytes(bytes: &[u8], into: &mut Vec<u8>) -> Result<(), AllocError>
     into.extend_from_slice(bytes)
 }
 
+/// Adds one byte. Fails only if memory runs out, as all that follow.
 pub fn push_byte(byte: u8, into: &mut Vec<u8>) -> Result<(), AllocError>
     ensures { OnOk result (Pushed into.old.items into.new.items (λ rest. byte ∷ rest)) }
 {
     push_bytes(&[byte], into)
 }
 
+/// Adds four bytes, the first of which weighs most.
 pub fn push_four(number: u32, into: &mut Vec<u8>) -> Result<(), AllocError>
     ensures { OnOk result (Pushed into.old.items into.new.items (four_text number)) }
 {
     push_bytes(&number.to_be_bytes(), into)
 }
 
+/// Adds eight bytes, the first of which weighs most.
 pub fn push_eight(number: u64, into: &mut Vec<u8>) -> Result<(), AllocError>
     ensures { OnOk result (Pushed into.old.items into.new.items (eight_text number)) }
 {
     push_bytes(&number.to_be_bytes(), into)
 }
 
+/// Adds a name after its length.
 #[tactic(auto, using(crate::proofs::Texts::name_short))]
 pub fn push_name(name: &Name, into: &mut Vec<u8>) -> Result<(), AllocError>
     ensures { OnOk result (Pushed into.old.items into.new.items (short_text name.now)) }
@@ -37,6 +41,7 @@ pub fn push_name(name: &Name, into: &mut Vec<u8>) -> Result<(), AllocError>
     push_short(name.as_bytes(), into)
 }
 
+/// Adds a fingerprint after its length.
 #[tactic(auto, using(crate::proofs::Texts::print_short))]
 pub fn push_print(print: &Print, into: &mut Vec<u8>) -> Result<(), AllocError>
     ensures { OnOk result (Pushed into.old.items into.new.items (short_text print.now)) }

@@ -20,6 +20,7 @@ pub fn better(a: &Candidate, b: &Candidate) -> bool
     is_better(a.version, a.place, b.version, b.place)
 }
 
+/// The same of a version at a place.
 pub(crate) fn is_better(version: Version, place: Place, than: Version, than_place: Place) -> bool
     ensures { IsTrue result ↔ IsBetter (version, place) (than, than_place) }
 {

@@ -1,6 +1,6 @@
 use Rattle.std.proofs.Common.{length, ap, arith}
 use Rattle.std.specs.Fmt.{decimal}
-use Rattle.apex_world.proofs.ShortForms.{short_weighs, name_short}
+use Rattle.apex_world.proofs.ShortForms.{short_weighs, short_module, name_short}
 use Rattle.apex_world.proofs.modules.short_weight.Goals as goal
 
 pub returns-clause-weight : goal.returns-clause-weight
@@ -21,3 +21,7 @@ returns-clause-small c =
       ap length c.as_bytes.ensures.bytes,
       c.format-digits.ensures.short,
     )
+
+pub returns-clause-whole : goal.returns-clause-whole
+returns-clause-whole c =
+    short_module c.args.name.now c.args.version c.as_bytes.ensures.name c.number.ensures.range

@@ -2,7 +2,7 @@ use Rattle.std.proofs.Common.{◌≡◌, take}
 use Rattle.std.proofs.Common.{flat_map}
 use Rattle.apex_base.specs.declared.records.Record.{Record}
 use Rattle.apex_base.specs.Held.{kept_for}
-use Rattle.plain_world.proofs.held.kept.Given as goal
+use Rattle.apex_base.proofs.targets.kept.Given as goal
 
 -- the targets of the sessions so far
 abbrev pub invariant-loop-r : goal.invariant-loop-r

@@ -1,6 +1,6 @@
 use Rattle.std.proofs.Common.{◌≡◌, ◌++◌, take, flat_map}
 use Rattle.apex_base.specs.Held.{kept_for}
-use Rattle.package_store.proofs.held.keep_session.Given as goal
+use Rattle.apex_base.proofs.targets.keep_session.Given as goal
 
 -- the targets of the parts so far
 abbrev pub invariant-loop-p : goal.invariant-loop-p

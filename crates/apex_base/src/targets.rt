@@ -4,11 +4,11 @@ ghost use Rattle.std.specs.Option.{option_copied};
 ghost use Rattle.std.specs.Str.{bytes_eq};
 ghost use Rattle.apex_base.specs.Held.{candidate, later, target_of, held, before, kept_for, kept, is_module, is_target};
 
-use apex_base::{Name, Part, Record, RollbackState, SessionId, Target};
+use crate::{Name, Part, Record, RollbackState, SessionId, Target};
 use std::alloc::{AllocError, Global};
 
-/// The targets whose modules are kept.
-pub(crate) fn kept(alloc: Global, sessions: &[Record]) -> Result<Vec<Target>, AllocError>
+/// The targets whose modules are kept, those of each session after one another. Fails only if memory runs out.
+pub fn kept(alloc: Global, sessions: &[Record]) -> Result<Vec<Target>, AllocError>
     ensures { IfOk result (λ targets. targets.items ≡ kept sessions.now) }
 {
     let mut targets = Vec::new(alloc);
@@ -52,8 +52,8 @@ fn keep_for(
     Ok(())
 }
 
-/// The target that a name holds.
-pub(crate) fn held(sessions: &[Record], name: &Name) -> Target
+/// The target that a name holds: that of the latest boot which activated one and stands.
+pub fn held(sessions: &[Record], name: &Name) -> Target
     ensures { result ≡ held sessions.now name.now }
 {
     let mut best = None;
@@ -63,8 +63,8 @@ pub(crate) fn held(sessions: &[Record], name: &Name) -> Target
     target_of(best)
 }
 
-/// The target that a name held before a session was activated.
-pub(crate) fn before(sessions: &[Record], x: &Record, name: &Name) -> Target
+/// The target that a name held before a session was activated: that of the latest success before it.
+pub fn before(sessions: &[Record], x: &Record, name: &Name) -> Target
     ensures { result ≡ before sessions.now x.now name.now }
 {
     let mut best = None;
@@ -111,8 +111,8 @@ fn target_of(best: Option<(u32, Target)>) -> Target
     }
 }
 
-/// Whether this module is among the targets.
-pub(crate) fn is_target(targets: &[Target], session: SessionId, part: u32) -> bool
+/// Whether this part of a session is among the targets.
+pub fn is_target(targets: &[Target], session: SessionId, part: u32) -> bool
     ensures { result ≡ is_target targets.now session part }
 {
     targets.iter().any(|t| is_module(session, part, *t))

@@ -1,7 +1,7 @@
 use Rattle.std.proofs.Common.{◌≡◌, ◌&&◌, ltb, take, fold, None}
 use Rattle.apex_base.specs.Held.{is_success, candidate, later}
 use Rattle.apex_base.specs.declared.records.Record.{Record}
-use Rattle.plain_world.proofs.held.before.Given as goal
+use Rattle.apex_base.proofs.targets.before.Given as goal
 
 -- the best of the sessions so far
 abbrev pub invariant-loop-r : goal.invariant-loop-r
