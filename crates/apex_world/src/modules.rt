@@ -7,9 +7,9 @@ ghost use Rattle.module_digest.specs.Listing.{listing};
 ghost use Rattle.apex_world.specs.Soundness.{manifest_in, checked, is_sound, key_of, is_same_key, short_form};
 
 use apex_base::{FilePath, Listed, Module, ModuleFault, Name, Shared, Version};
-use apex_manifest::{Manifest, ManifestWhy, read_manifest};
+use apex_manifest::{Manifest, ManifestWhy, read_manifest, short_manifest};
 use itoa::Buffer;
-use module_digest::{check_listing, sound_listing_is_the_listing};
+use module_digest::{check_listing, seal, sound_listing_is_the_listing};
 use std::alloc::{AllocError, Global};
 use std::marker::Model;
 
@@ -97,6 +97,19 @@ impl SharedModule {
         }
     }
 
+    /// The module with its files. They are made anew for the short form, and else shared. Fails only if memory runs out.
+    pub fn directory(&self, alloc: Global) -> Result<Shared<Module>, AllocError>
+        ensures { IfOk result (λ directory. directory ≡ self.now) }
+    {
+        match &self.form {
+            Form::Short { name, version } => {
+                let directory = short_directory(alloc, name, *version)?;
+                Shared::new(alloc, directory)
+            }
+            Form::Files(files) => files.share(),
+        }
+    }
+
     /// What the module's manifest says, or its first fault.
     pub fn manifest(&self, alloc: Global) -> Result<Manifest, ManifestWhy>
         ensures { Answers result (manifest_in self.now) }
@@ -178,6 +191,22 @@ enum Form {
     Short { name: Name, version: Version },
     /// In files that several owners share.
     Files(Shared<Module>),
+}
+
+/// The files of the short form `NAME@VERSION`.
+fn short_directory(alloc: Global, name: &Name, version: Version) -> Result<Module, AllocError>
+    ensures { IfOk result (λ directory. directory ≡ short_form name.now version) }
+{
+    let mut directory = Module::new(alloc);
+    let text = short_manifest(alloc, name, version)?;
+    match directory.put(FilePath::manifest(), text) {
+        Ok(()) => {}
+        Err(_) => return Err(AllocError),
+    }
+    match seal(alloc, &mut directory) {
+        Ok(()) => Ok(directory),
+        Err(_) => Err(AllocError),
+    }
 }
 
 /// The weight of the short form: two files, of which the listing has 84 bytes, and the manifest 22 bytes beside
