@@ -1,5 +1,5 @@
 -- Replies, rows and tables of calls. Callers want `quiet_is`, `has_room`, and the lemmas on each call.
-use Rattle.std.proofs.Common.{◌≡◌, ℕ, Bool, true, false, List, [], ◌∷◌, slice_set, Option, Some, None, sym, ap, subst, ◌∙◌, refl, inl, inr, eqb, eq-eqb, eqb-true, ◌||◌, Result, Ok, Err, OnOk, OnErr}
+use Rattle.std.proofs.Common.{◌≡◌, ℕ, Bool, true, false, List, [], ◌∷◌, slice_set, Option, Some, None, sym, ap, subst, ◌∙◌, refl, inl, inr, eqb, eq-eqb, eqb-true, ◌||◌}
 use Rattle.std.proofs.lemmas.Bool.{false≢true}
 use Rattle.apex_base.specs.declared.moves.Move.TheVariants as step_of
 use Rattle.apex_base.specs.declared.numbers.SessionId.{SessionId}
@@ -26,6 +26,7 @@ use Rattle.apex_world.specs.declared.calls.Call.{Call}
 use Rattle.apex_world.specs.declared.calls.Call.TheVariants as calls
 use Rattle.apex_world.specs.declared.calls.Reply.TheVariants as reply
 use Rattle.apex_world.specs.Advance.{move_to, move_found, ready}
+use Rattle.apex_world.specs.Limits.{units}
 use Rattle.apex_world.specs.Rows.{rows, row_at, is_staged}
 use Rattle.apex_world.specs.RowsMoved.{ready_row}
 use Rattle.apex_world.specs.Running.{Running}
@@ -36,9 +37,10 @@ use Rattle.apex_core.specs.declared.judged.Judged.{Judged}
 use Rattle.apex_core.specs.declared.judged.Patch.{Patch}
 use Rattle.apex_core.specs.declared.judged.Patch.TheVariants.{Nothing, Session}
 use Rattle.apex_core.specs.declared.tables.Tables.{Tables}
-use Rattle.apex_core.specs.Core.{StandsFor}
-use Rattle.apex_core.specs.Judged.{IsJudged, IsPatched, RunsOn, patched, clock_after}
+use Rattle.apex_core.specs.Core.{IsSimple, StandsFor}
+use Rattle.apex_core.specs.Judged.{IsJudged, RunsOn, patched, clock_after, units_after}
 use Rattle.apex_core.proofs.Batches.{IsRowOf, batch_leads}
+use Rattle.apex_core.proofs.Simple.{move_simple, move_units}
 use Rattle.apex_world.proofs.CallsRun.{calls_run}
 use Rattle.apex_world.proofs.ReadyRows.{ready_rows}
 use Rattle.apex_world.proofs.WorldRows.{same_id}
@@ -74,9 +76,10 @@ module _ (kept : RowMap) (tables : Tables) (w : World) (s : StandsFor kept table
         stored = ap (changed kept) none ∙ s.stored ∙ ap rows (sym world);
         sessions = ap (λ (p : Patch). patched p w.sessions) nothing ∙ ap (λ (v : World). v.sessions) (sym world);
         clock = ap (λ (p : Patch). clock_after p w.clock) nothing ∙ ap (λ (v : World). v.clock) (sym world);
+        units = ap (λ (p : Patch). units_after p (units w)) nothing ∙ ap units (sym world);
         running = subst Running (sym world) s.running;
-        rest = subst (RunsOn w) (sym world)
-            (record { scale = refl; image = refl; observers = refl; active = refl; failures = λ name. refl });
+        simple = subst IsSimple (sym world) s.simple;
+        rest = subst (RunsOn w) (sym world) (record { scale = refl; image = refl; active = refl });
       }
 
   -- what is found in the tables
@@ -201,29 +204,9 @@ module _ (kept : RowMap) (tables : Tables) (w : World) (s : StandsFor kept table
               ∙ ap (λ (x : Record). with_session x w.sessions) same
               ∙ sym (ap (λ (y : Stepped). y.world.sessions) e);
           clock = ap (λ (p : Patch). clock_after p w.clock) patch ∙ sym (ap (λ (y : Stepped). y.world.clock) e);
+          units = ap (λ (p : Patch). units_after p (units w)) patch
+              ∙ sym (move_units w s.simple w.clock id step_of.Ready);
+          simple = move_simple w s.simple w.clock id step_of.Ready;
           rest = subst (λ (y : Stepped). RunsOn w y.world) (sym e)
-              (record { scale = refl; image = refl; observers = refl; active = refl; failures = λ name. refl });
+              (record { scale = refl; image = refl; active = refl });
         }
-
--- after a call that was judged, the new rows and tables stand for its world
-pub stands_next : (kept kept' : RowMap) (before after : Tables) (w : World) (call : Call) (judged : Judged)
-    → StandsFor kept before w → IsJudged judged kept w call → kept' ≡ changed kept judged.rows.items
-    → IsPatched judged.patch before after → StandsFor kept' after (step w call).world
-stands_next kept kept' before after w call judged s j e p = record {
-  running = j.running;
-  stored = e ∙ j.stored;
-  scale = p.scale ∙ s.scale ∙ j.rest.scale;
-  sessions = p.sessions ∙ ap (patched judged.patch) s.sessions ∙ j.sessions;
-  image = ap Some p.image ∙ s.image ∙ j.rest.image;
-  observers = sym j.rest.observers ∙ s.observers;
-  active = p.active ∙ s.active ∙ j.rest.active;
-  clock = p.clock ∙ ap (clock_after judged.patch) s.clock ∙ j.clock;
-  failures = λ name. sym (j.rest.failures name) ∙ s.failures name;
-}
-
--- after a call, or without memory, the core stands for a world
-pub stands_still : {X Y : Type 0} (result : Result X Y) (kept kept' : RowMap) (before after : Tables) (w v : World)
-    → StandsFor kept before w → OnOk result (StandsFor kept' after v) → OnErr result (kept' ≡ kept)
-    → OnErr result (after ≡ before) → (x : World) × StandsFor kept' after x
-stands_still (Ok x) kept kept' before after w v s next rows tables = (v, next)
-stands_still (Err y) kept kept' before after w v s next rows tables = (w, rw (rows, tables) s)

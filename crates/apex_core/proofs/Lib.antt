@@ -1,3 +1,5 @@
 pub mod Batches
 pub mod Judgements
+pub mod Performed
 pub mod Search
+pub mod Simple

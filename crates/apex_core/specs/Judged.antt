@@ -1,71 +1,90 @@
 -- What a call is to do: docs/rows.md, "A core".
-use Rattle.std.specs.Prelude.{◌≡◌, ◌<◌, ℕ, List, length, slice_set}
+use Rattle.std.specs.Prelude.{◌≡◌, ◌≤◌, ◌<◌, ◌+◌, ℕ, List, length, insert, slice_set, vec_len, vec_capacity}
+use Rattle.std.specs.declared.alloc.Global.{Global}
+use Rattle.std.specs.declared.vec.Vec.{Vec}
 use Rattle.apex_base.specs.declared.records.Record.{Record}
 use Rattle.apex_base.specs.Keys.{RowMap}
 use Rattle.apex_core.specs.declared.judged.Judged.{Judged}
 use Rattle.apex_core.specs.declared.judged.Patch.{Patch}
-use Rattle.apex_core.specs.declared.judged.Patch.TheVariants.{Nothing, Session}
+use Rattle.apex_core.specs.declared.judged.Patch.TheVariants.{Nothing, Session, Success, New}
 use Rattle.apex_core.specs.declared.tables.Tables.{Tables}
 use Rattle.apex_world.specs.declared.calls.Call.{Call}
-use Rattle.apex_world.specs.declared.calls.Call.TheVariants as calls
-use Rattle.apex_world.specs.Report.{failures_of}
+use Rattle.apex_world.specs.Limits.{kind_units, units}
 use Rattle.apex_world.specs.Rows.{rows}
 use Rattle.apex_world.specs.Running.{Running}
 use Rattle.apex_world.specs.Step.{step}
 use Rattle.apex_world.specs.World.{World}
 use Rattle.row_map.specs.Rows.{changed}
-
--- the calls that a core does so far
-abbrev pub IsDone : Call → Type 0
-IsDone (calls.Submit id children rollback parts) = ⊥
-IsDone (calls.Ready id) = Unit {0}
-IsDone (calls.Abort id) = ⊥
-IsDone (calls.Success time id) = ⊥
-IsDone calls.Revert = ⊥
-IsDone (calls.Commit id) = ⊥
-IsDone (calls.Put name key value) = ⊥
-IsDone (calls.Drop name key) = ⊥
-IsDone (calls.Get name key) = ⊥
-IsDone (calls.StateOf id) = Unit {0}
-IsDone (calls.Watch time observer duration names) = ⊥
-IsDone (calls.Report time name why) = ⊥
+use Rattle.apex_core.specs.Core.{IsSimple}
 
 -- the sessions after a patch
 abbrev pub patched : Patch → List Record → List Record
 patched Nothing sessions = sessions
 patched (Session place session) sessions = slice_set sessions place session
+patched (Success place session clock) sessions = slice_set sessions place session
+patched (New place session) sessions = insert sessions place session
 
 -- the clock after it
 abbrev pub clock_after : Patch → ℕ → ℕ
 clock_after Nothing clock = clock
 clock_after (Session place session) clock = clock
+clock_after (Success place session later) clock = later
+clock_after (New place session) clock = clock
 
--- the place is one of the list's
+-- the units after it
+abbrev pub units_after : Patch → ℕ → ℕ
+units_after Nothing units = units
+units_after (Session place session) units = units
+units_after (Success place session clock) units = units
+units_after (New place session) units = units + kind_units session.kind
+
+-- the place is one of the list's, or for a new session its end
 abbrev pub IsPlaced : Patch → List Record → Type 0
 IsPlaced Nothing sessions = Unit {0}
 IsPlaced (Session place session) sessions = place < length sessions
+IsPlaced (Success place session clock) sessions = place < length sessions
+IsPlaced (New place session) sessions = place ≤ length sessions
+
+-- there is room for a new session
+abbrev pub HasRoom : Patch → Vec Record Global → Type 0
+HasRoom Nothing sessions = Unit {0}
+HasRoom (Session place session) sessions = Unit {0}
+HasRoom (Success place session clock) sessions = Unit {0}
+HasRoom (New place session) sessions = vec_len sessions < vec_capacity sessions
 
 -- what runs since the last boot is the same, but for the clock
 pub record RunsOn (w v : World) : Type 0 where
   pub scale : w.scale ≡ v.scale
   pub image : w.image ≡ v.image
-  pub observers : w.observers ≡ v.observers
   pub active : w.active ≡ v.active
-  pub failures : (name : List ℕ) → failures_of w.failures name ≡ failures_of v.failures name
 
 -- the reply, the rows and the tables are those of the call in this world
 pub record IsJudged (judged : Judged) (kept : RowMap) (w : World) (call : Call) : Type 0 where
   pub reply : judged.reply ≡ (step w call).reply
   pub running : Running (step w call).world
+  pub simple : IsSimple (step w call).world
   pub stored : changed kept judged.rows.items ≡ rows (step w call).world
   pub sessions : patched judged.patch w.sessions ≡ (step w call).world.sessions
   pub clock : clock_after judged.patch w.clock ≡ (step w call).world.clock
+  pub units : units_after judged.patch (units w) ≡ units (step w call).world
   pub rest : RunsOn w (step w call).world
 
--- the tables with a patch
-pub record IsPatched (patch : Patch) (before after : Tables) : Type 0 where
+-- the tables with a patch, and the weight of the files that are kept now
+pub record IsPatched (patch : Patch) (kept : ℕ) (before after : Tables) : Type 0 where
   pub sessions : after.sessions.items ≡ patched patch before.sessions.items
   pub clock : after.clock ≡ clock_after patch before.clock
+  pub units : after.units ≡ units_after patch before.units
+  pub weight : after.weight ≡ kept
+  pub scale : after.scale ≡ before.scale
+  pub image : after.image ≡ before.image
+  pub active : after.active.items ≡ before.active.items
+
+-- the same tables, whatever room they have
+pub record IsSame (before after : Tables) : Type 0 where
+  pub sessions : after.sessions.items ≡ before.sessions.items
+  pub clock : after.clock ≡ before.clock
+  pub units : after.units ≡ before.units
+  pub weight : after.weight ≡ before.weight
   pub scale : after.scale ≡ before.scale
   pub image : after.image ≡ before.image
   pub active : after.active.items ≡ before.active.items

@@ -6,7 +6,7 @@ ghost use Rattle.std.specs.Ordering.{nat_cmp};
 ghost use Rattle.row_codec.specs.Batch.{keys_of};
 ghost use Rattle.apex_core.specs.declared.judged.Patch.TheVariants.{Nothing};
 
-use apex_base::Record;
+use apex_base::{Millis, Record};
 use apex_world::Reply;
 use row_codec::Row;
 use std::alloc::Global;
@@ -16,7 +16,21 @@ use std::alloc::Global;
 pub enum Patch {
     Nothing,
     /// The session at a place is this one.
-    Session { place: usize, session: Record },
+    Session {
+        place: usize,
+        session: Record,
+    },
+    /// The session at a place is this one, and the clock stands at this moment.
+    Success {
+        place: usize,
+        session: Record,
+        clock: Millis,
+    },
+    /// This session comes to stand at a place, and all from there on after it.
+    New {
+        place: usize,
+        session: Record,
+    },
 }
 
 /// The reply to a call, the rows that it changes, and what it changes in the tables.

@@ -10,11 +10,14 @@ ghost use Rattle.apex_world.specs.Calls.{call_at};
 ghost use Rattle.apex_world.specs.Rows.{is_staged};
 ghost use Rattle.apex_world.specs.World.{World};
 ghost use Rattle.apex_core.specs.Core.{StandsFor};
-ghost use Rattle.apex_core.specs.Judged.{IsDone, IsJudged, IsPlaced};
+ghost use Rattle.apex_core.specs.Judged.{IsJudged, IsPlaced};
+ghost use Rattle.apex_world.specs.Playable.{IsBuilt};
 
+use crate::ending::{judge_abort, judge_success};
 use crate::judged::{Judged, Patch};
 use crate::rows::{record_rows, session_in};
 use crate::sessions::{place_of, session_with};
+use crate::submitting::judge_submit;
 use crate::tables::Tables;
 use apex_base::{Move, Refusal, SessionId, State, moved};
 use apex_world::{CallRef, Reply};
@@ -83,7 +86,7 @@ pub fn judge(
     tables: &Tables,
     call: &CallRef,
 ) -> Result<Judged, AllocError>
-    requires done { IsDone (call_at call.now) }
+    requires built { IsBuilt (call_at call.now) }
     requires stands { (w : World) × StandsFor rows.now tables.now w }
     ensures judged { (w : World) → StandsFor rows.now tables.now w → IfOk result (λ j. IsJudged j rows.now w (call_at call.now)) }
     ensures placed { IfOk result (λ j. IsPlaced j.patch tables.now.sessions.items) }
@@ -92,10 +95,13 @@ pub fn judge(
     match call {
         CallRef::Ready { id } => judge_ready(alloc, rows, tables, *id),
         CallRef::StateOf { id } => judge_state(alloc, rows, tables, *id),
-        CallRef::Submit { .. }
-        | CallRef::Abort { .. }
-        | CallRef::Success { .. }
-        | CallRef::Revert
+        CallRef::Submit { id, parts, .. } => match parts {
+            [part] => judge_submit(alloc, rows, tables, *id, part),
+            _ => unreachable!(),
+        },
+        CallRef::Abort { id } => judge_abort(alloc, rows, tables, *id),
+        CallRef::Success { time, id } => judge_success(alloc, rows, tables, *time, *id),
+        CallRef::Revert
         | CallRef::Commit { .. }
         | CallRef::Put { .. }
         | CallRef::Drop { .. }

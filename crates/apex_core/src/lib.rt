@@ -2,11 +2,14 @@
 //! rows and tables.
 #![tactic(auto)]
 
+mod booting;
+mod ending;
 mod judged;
 mod judging;
 mod manager;
 mod rows;
 mod sessions;
+mod submitting;
 mod tables;
 
 pub use judged::{Judged, Patch};

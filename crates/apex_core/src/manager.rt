@@ -1,31 +1,70 @@
 //! The manager of one thread.
-ghost use Rattle.std.specs.Prelude.{◌≡◌, IfOk, OnOk, OnErr, find, option_map};
+ghost use Rattle.std.specs.Prelude.{◌≡◌, ◌<◌, ◌^◌, IfOk, OnOk, OnErr, find, option_map};
 ghost use Rattle.apex_base.specs.declared.records.Record.{Record};
 ghost use Rattle.apex_base.specs.Sessions.{has_id};
 ghost use Rattle.apex_world.specs.Calls.{call_at};
 ghost use Rattle.apex_world.specs.Step.{step};
 ghost use Rattle.apex_world.specs.World.{World};
-ghost use Rattle.apex_core.specs.Core.{StandsFor, Kept};
-ghost use Rattle.apex_core.specs.Judged.{IsDone, IsPlaced, IsPatched};
+ghost use Rattle.apex_world.specs.Limits.{kind_units};
+ghost use Rattle.apex_world.specs.Playable.{IsBuilt};
+ghost use Rattle.apex_core.specs.Core.{StandsFor, IsStored, Kept};
+ghost use Rattle.apex_core.specs.Judged.{HasRoom, IsPlaced, IsPatched, IsSame, units_after};
 
 use crate::judged::{Judged, Patch};
 use crate::judging::judge;
 use crate::sessions::session_with;
 use crate::tables::Tables;
-use apex_base::{Pick, SessionId, State};
+use apex_base::{Kind, Pick, SessionId, State};
 use apex_world::{CallRef, Reply};
+use package_store::{kept_weight, rows_are_those_shown};
 use row_map::Rows;
 use std::alloc::{AllocError, Global};
 use std::marker::Model;
 
-/// Changes the tables. It takes no memory.
-fn apply(tables: &mut Tables, patch: Patch)
-    requires { IsPlaced patch tables.old.sessions.items }
-    ensures { IsPatched patch tables.old tables.new }
+/// Takes the memory that a patch needs.
+fn make_room(tables: &mut Tables, patch: &Patch) -> Result<(), AllocError>
+    ensures room { OnOk result (HasRoom patch.now tables.new.sessions) }
+    ensures same { IsSame tables.old tables.new }
 {
+    match patch {
+        Patch::New { .. } => tables.sessions.reserve(1),
+        Patch::Nothing | Patch::Session { .. } | Patch::Success { .. } => Ok(()),
+    }
+}
+
+/// Changes the tables. It takes no memory.
+fn apply(tables: &mut Tables, patch: Patch, weight: u64)
+    requires placed { IsPlaced patch tables.old.sessions.items }
+    requires room { HasRoom patch tables.old.sessions }
+    requires few { units_after patch tables.old.units < 2 ^ 32 }
+    ensures { IsPatched patch weight tables.old tables.new }
+{
+    tables.weight = weight;
     match patch {
         Patch::Nothing => {}
         Patch::Session { place, session } => tables.sessions[place] = session,
+        Patch::Success {
+            place,
+            session,
+            clock,
+        } => {
+            tables.sessions[place] = session;
+            tables.clock = clock;
+        }
+        Patch::New { place, session } => {
+            tables.units += kind_units(session.kind);
+            let _ = tables.sessions.insert(place, session);
+        }
+    }
+}
+
+fn kind_units(kind: Kind) -> u32
+    ensures { result ≡ kind_units kind }
+{
+    match kind {
+        Kind::Plain => 1,
+        Kind::WithRollback => 2,
+        Kind::RollbackOf(_) => 0,
     }
 }
 
@@ -36,23 +75,26 @@ fn perform(
     tables: &mut Tables,
     call: &CallRef,
 ) -> Result<Reply, AllocError>
-    requires done { IsDone (call_at call.now) }
+    requires built { IsBuilt (call_at call.now) }
     requires stands { (w : World) × StandsFor rows.old tables.old w }
     ensures reply { (w : World) → StandsFor rows.old tables.old w
         → IfOk result (λ reply. reply ≡ (step w (call_at call.now)).reply) }
     ensures stands { (w : World) → StandsFor rows.old tables.old w
         → OnOk result (StandsFor rows.new tables.new (step w (call_at call.now)).world) }
-    ensures rows { OnErr result (rows.new ≡ rows.old) }
-    ensures tables { OnErr result (tables.new ≡ tables.old) }
+    ensures stays { (w : World) → StandsFor rows.old tables.old w
+        → OnErr result (StandsFor rows.new tables.new w) }
 {
     let judged = judge(alloc, rows, tables, call)?;
     let reply = judged.reply;
     let batch = judged.rows;
     let patch = judged.patch;
+    make_room(tables, &patch)?;
     let added = rows.make_room(alloc, &batch)?;
     drop(added);
     let _ = rows.change_all(batch);
-    apply(tables, patch);
+    rows_are_those_shown();
+    let weight = kept_weight(rows.by_key());
+    apply(tables, patch, weight);
     Ok(reply)
 }
 
@@ -98,14 +140,16 @@ impl Core {
         let _ = &self.rows;
     }
 
-    /// One call of those that a core does so far, as each world answers it that the core stands for.
+    /// One call of those that lines make so far, as each world answers it that the core stands for. Where memory runs out, the
+    /// core stands for the worlds that it stood for.
     pub fn act(&mut self, alloc: Global, call: &CallRef) -> Result<Reply, AllocError>
-        requires done { IsDone (call_at call.now) }
+        requires built { IsBuilt (call_at call.now) }
         ensures reply { (w : World) → StandsFor self.old.rows self.old.tables w
             → IfOk result (λ reply. reply ≡ (step w (call_at call.now)).reply) }
         ensures stands { (w : World) → StandsFor self.old.rows self.old.tables w
             → OnOk result (StandsFor self.new.rows self.new.tables (step w (call_at call.now)).world) }
-        ensures unchanged { OnErr result (self.new ≡ self.old) }
+        ensures stays { (w : World) → StandsFor self.old.rows self.old.tables w
+            → OnErr result (StandsFor self.new.rows self.new.tables w) }
     {
         perform(alloc, &mut self.rows, &mut self.tables, call)
     }
@@ -126,9 +170,10 @@ impl Core {
         Some(r.state)
     }
 
-    /// The rows.
+    /// The rows, from which it can be booted again.
     pub fn into_rows(self) -> Rows
-        ensures { result ≡ self.rows }
+        ensures rows { result ≡ self.rows }
+        ensures stored { (w : World) → StandsFor self.rows self.tables w → IsStored result w }
     {
         self.rows
     }

@@ -2,11 +2,15 @@
 use apex_base::{Millis, Pick, Record, Scale, Shared};
 use apex_world::Image;
 
-/// The sessions, ascending by id, and what runs since the last boot.
+/// The sessions, ascending by id, what they sum up to, and what runs since the last boot.
 #[derive(Drop)]
 pub struct Tables {
     pub(crate) scale: Scale,
     pub(crate) sessions: Vec<Record>,
+    /// How many units the sessions have.
+    pub(crate) units: u32,
+    /// What the modules weigh that are kept.
+    pub(crate) weight: u64,
     pub(crate) image: Shared<Image>,
     pub(crate) active: Vec<Pick>,
     pub(crate) clock: Millis,

@@ -141,7 +141,7 @@ impl Run {
         step: &SegmentForm,
     ) -> Result<(), PutFailed>
         requires playable { IsPlayableBoot (2 ^ 32) boot.now }
-        requires within { at < length boot.now.segments }
+        requires there { at < length boot.now.segments }
         requires here { segment_of step.now ≡ get_or boot.now.segments at (segment_of step.now) }
         requires counts { HasCounts steps.old (blocks_before boot.now at) }
         requires within { IsWithinScale self.old.world }
@@ -171,7 +171,7 @@ impl Run {
         call: &CallRef,
     ) -> Result<(), PutFailed>
         requires playable { IsPlayableBoot (2 ^ 32) boot.now }
-        requires within { at < length boot.now.segments }
+        requires there { at < length boot.now.segments }
         requires here { plain_segment (call_at call.now) ≡ get_or boot.now.segments at (plain_segment (call_at call.now)) }
         requires counts { HasCounts steps.old (blocks_before boot.now at) }
         requires within { IsWithinScale self.old.world }
@@ -199,7 +199,7 @@ impl Run {
         segment: &Segment,
     ) -> Result<(), PutFailed>
         requires playable { IsPlayableBoot (2 ^ 32) boot.now }
-        requires within { at < length boot.now.segments }
+        requires there { at < length boot.now.segments }
         requires here { segment.now ≡ get_or boot.now.segments at segment.now }
         requires counts { HasCounts steps.old (blocks_before boot.now at) }
         requires within { IsWithinScale self.old.world }

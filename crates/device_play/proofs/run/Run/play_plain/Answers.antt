@@ -12,12 +12,12 @@ overflow_add-step g c =
       arith,
       c.requires.counts.each 0 (omega arith),
       call_counted c.args.boot.now c.args.at
-          (call_at c.args.call.now) c.requires.playable c.requires.within c.requires.here,
+          (call_at c.args.call.now) c.requires.playable c.requires.there c.requires.here,
     )
 
 pub play_call-requires-clause-built : goal.play_call-requires-clause-built
 play_call-requires-clause-built g c =
-    call_playable c.args.boot.now c.args.at (call_at c.args.call.now) c.requires.playable c.requires.within
+    call_playable c.args.boot.now c.args.at (call_at c.args.call.now) c.requires.playable c.requires.there
     c.requires.here
 
 pub returns-in_err-play_call-clause-ran : goal.returns-in_err-play_call-clause-ran
@@ -33,6 +33,6 @@ returns-clause-ran g c =
 pub returns-clause-counts : goal.returns-clause-counts
 returns-clause-counts g c =
     λ _. subst (HasCounts _)
-    (sym (blocks_next c.args.boot.now c.args.at (plain_segment (call_at c.args.call.now)) c.requires.within
+    (sym (blocks_next c.args.boot.now c.args.at (plain_segment (call_at c.args.call.now)) c.requires.there
     c.requires.here))
     (call_counts c.args.steps.now (blocks_before c.args.boot.now c.args.at) (call_at c.args.call.now) c.requires.counts)

@@ -15,7 +15,7 @@ bounds-steps-lane g c =
     let here : l ≡ get_or s.lanes j l = rw c.as_slice-lane-items.ensures at c.lane-item.is in
     omega (
       arith,
-      (lane_playable (2 ^ 32) c.args.boot.now c.args.at j s l c.requires.playable c.requires.within
+      (lane_playable (2 ^ 32) c.args.boot.now c.args.at j s l c.requires.playable c.requires.there
           c.requires.here lt here).number,
     )
 
@@ -26,7 +26,7 @@ play_lane-requires-clause-playable g c =
     let j = c.loop-lane.lane-index in
     let lt : j < length s.lanes = omega (arith, ap length c.as_slice-lane-items.ensures) in
     let here : l ≡ get_or s.lanes j l = rw c.as_slice-lane-items.ensures at c.lane-item.is in
-    lane_playable (2 ^ 32) c.args.boot.now c.args.at j s l c.requires.playable c.requires.within c.requires.here lt here
+    lane_playable (2 ^ 32) c.args.boot.now c.args.at j s l c.requires.playable c.requires.there c.requires.here lt here
 
 pub bounds-steps-lane-in-loop-lane : goal.bounds-steps-lane-in-loop-lane
 bounds-steps-lane-in-loop-lane g c =
@@ -37,7 +37,7 @@ bounds-steps-lane-in-loop-lane g c =
     let here : l ≡ get_or s.lanes j l = rw c.as_slice-lane-items.ensures at c.lane-item.is in
     omega (
       arith,
-      (lane_playable (2 ^ 32) c.args.boot.now c.args.at j s l c.requires.playable c.requires.within
+      (lane_playable (2 ^ 32) c.args.boot.now c.args.at j s l c.requires.playable c.requires.there
           c.requires.here lt here).number,
     )
 
@@ -49,14 +49,14 @@ play_lane-requires-clause-few g c =
     let lt : j < length s.lanes = omega (arith, ap length c.as_slice-lane-items.ensures) in
     let here : l ≡ get_or s.lanes j l = rw c.as_slice-lane-items.ensures at c.lane-item.is in
     let low : l.number ≤ 8 =
-    (lane_playable (2 ^ 32) c.args.boot.now c.args.at j s l c.requires.playable c.requires.within c.requires.here lt
+    (lane_playable (2 ^ 32) c.args.boot.now c.args.at j s l c.requires.playable c.requires.there c.requires.here lt
     here).number in
     let had = c.loop-lane.invariant.counts.each l.number low in
     omega (
       arith,
       had,
       counts_few (2 ^ 32) c.args.boot.now.segments c.args.at j s l c.requires.playable.steps
-          c.requires.within c.requires.here lt here,
+          c.requires.there c.requires.here lt here,
     )
 
 pub returns-in_err-play_lane-clause-ran : goal.returns-in_err-play_lane-clause-ran
@@ -67,7 +67,7 @@ returns-in_err-play_lane-clause-ran g c =
     let lt : j < length s.lanes = omega (arith, ap length c.as_slice-lane-items.ensures) in
     let here : l ≡ get_or s.lanes j l = rw c.as_slice-lane-items.ensures at c.lane-item.is in
     let low : l.number ≤ 8 =
-    (lane_playable (2 ^ 32) c.args.boot.now c.args.at j s l c.requires.playable c.requires.within c.requires.here lt
+    (lane_playable (2 ^ 32) c.args.boot.now c.args.at j s l c.requires.playable c.requires.there c.requires.here lt
     here).number in
     let had = c.loop-lane.invariant.counts.each l.number low in
     let e = blocks_before c.args.boot.now c.args.at in
@@ -83,7 +83,7 @@ overflow_cast-steps g c =
     let lt : j < length s.lanes = omega (arith, ap length c.as_slice-lane-items.ensures) in
     let here : l ≡ get_or s.lanes j l = rw c.as_slice-lane-items.ensures at c.lane-item.is in
     let low : l.number ≤ 8 =
-    (lane_playable (2 ^ 32) c.args.boot.now c.args.at j s l c.requires.playable c.requires.within c.requires.here lt
+    (lane_playable (2 ^ 32) c.args.boot.now c.args.at j s l c.requires.playable c.requires.there c.requires.here lt
     here).number in
     let had = c.loop-lane.invariant.counts.each l.number low in
     omega (
@@ -91,7 +91,7 @@ overflow_cast-steps g c =
       had,
       ap length c.as_slice.ensures,
       counts_few (2 ^ 32) c.args.boot.now.segments c.args.at j s l
-          c.requires.playable.steps c.requires.within c.requires.here lt here,
+          c.requires.playable.steps c.requires.there c.requires.here lt here,
     )
 
 pub overflow_add-steps : goal.overflow_add-steps
@@ -102,7 +102,7 @@ overflow_add-steps g c =
     let lt : j < length s.lanes = omega (arith, ap length c.as_slice-lane-items.ensures) in
     let here : l ≡ get_or s.lanes j l = rw c.as_slice-lane-items.ensures at c.lane-item.is in
     let low : l.number ≤ 8 =
-    (lane_playable (2 ^ 32) c.args.boot.now c.args.at j s l c.requires.playable c.requires.within c.requires.here lt
+    (lane_playable (2 ^ 32) c.args.boot.now c.args.at j s l c.requires.playable c.requires.there c.requires.here lt
     here).number in
     let had = c.loop-lane.invariant.counts.each l.number low in
     omega (
@@ -110,7 +110,7 @@ overflow_add-steps g c =
       had,
       ap length c.as_slice.ensures,
       counts_few (2 ^ 32) c.args.boot.now.segments c.args.at j s l
-          c.requires.playable.steps c.requires.within c.requires.here lt here,
+          c.requires.playable.steps c.requires.there c.requires.here lt here,
     )
 
 pub loop-lane-preserved : goal.loop-lane-preserved
@@ -121,7 +121,7 @@ loop-lane-preserved g c =
     let lt : j < length s.lanes = omega (arith, ap length c.as_slice-lane-items.ensures) in
     let here : l ≡ get_or s.lanes j l = rw c.as_slice-lane-items.ensures at c.lane-item.is in
     let low : l.number ≤ 8 =
-    (lane_playable (2 ^ 32) c.args.boot.now c.args.at j s l c.requires.playable c.requires.within c.requires.here lt
+    (lane_playable (2 ^ 32) c.args.boot.now c.args.at j s l c.requires.playable c.requires.there c.requires.here lt
     here).number in
     let had = c.loop-lane.invariant.counts.each l.number low in
     let e = blocks_before c.args.boot.now c.args.at in

@@ -1,0 +1,81 @@
+-- What a call leaves that was judged and done. Callers want `weighs_next`,
+-- `is_small`, `stands_next`, `stands_same` and `stands_still`.
+use Rattle.std.proofs.Common.{◌≡◌, ◌≤◌, ◌<◌, ◌^◌, ℕ, List, Some, sym, ap, subst, ◌∙◌, arith, Result, Ok, Err}
+use Rattle.std.specs.declared.alloc.Global.{Global}
+use Rattle.std.specs.declared.vec.Vec.{Vec}
+use Rattle.std.specs.Prelude.{OnOk, OnErr}
+use Rattle.apex_base.specs.declared.numbers.Scale.{Scale}
+use Rattle.apex_base.specs.declared.numbers.Scale.TheVariants.{Small, Standard}
+use Rattle.apex_base.specs.Keys.{RowMap}
+use Rattle.apex_base.specs.Numbers.{scale_file_weight}
+use Rattle.apex_base.specs.RowSums.{kept_weight}
+use Rattle.apex_world.specs.declared.calls.Call.{Call}
+use Rattle.apex_world.specs.Limits.{weight}
+use Rattle.apex_world.specs.Step.{step}
+use Rattle.apex_world.specs.World.{World}
+use Rattle.apex_world.proofs.RowWeightLemmas.{file_rows_weigh}
+use Rattle.row_map.specs.Rows.{changed, rows_of}
+use Rattle.apex_core.specs.declared.judged.Judged.{Judged}
+use Rattle.apex_core.specs.declared.tables.Tables.{Tables}
+use Rattle.apex_core.specs.Core.{StandsFor}
+use Rattle.apex_core.specs.Judged.{IsJudged, IsPatched, IsSame, patched, clock_after, units_after}
+
+small_scale : (scale : Scale) (n : ℕ) → n ≤ scale_file_weight scale → n < 2 ^ 64
+small_scale Small n low = omega (arith, low)
+small_scale Standard n low = omega (arith, low)
+
+-- the rows after a call that was judged weigh as much as the modules that its world keeps
+pub weighs_next : (kept after : RowMap) (w : World) (call : Call) (judged : Judged) (entries : List (Vec ℕ Global × List ℕ))
+    → IsJudged judged kept w call → after ≡ changed kept judged.rows.items → rows_of entries ≡ after
+    → kept_weight (rows_of entries) ≡ weight (step w call).world
+weighs_next kept after w call judged entries j same is =
+    ap kept_weight (is ∙ same ∙ j.stored)
+    ∙ file_rows_weigh (step w call).world j.running.lawful
+
+-- and that is a small number
+pub is_small : (w : World) (call : Call) (judged : Judged) (kept : RowMap) (n : ℕ) → IsJudged judged kept w call
+    → n ≡ weight (step w call).world → n < 2 ^ 64
+is_small w call judged kept n j e =
+    small_scale (step w call).world.scale n (subst (λ (m : ℕ). m ≤ scale_file_weight (step w call).world.scale) (sym e)
+    j.running.lawful.bounds.weight)
+
+-- after a call that was judged, the new rows and tables stand for its world
+pub stands_next : (kept kept' : RowMap) (before after : Tables) (w : World) (call : Call) (judged : Judged) (n : ℕ)
+    → StandsFor kept before w → IsJudged judged kept w call → kept' ≡ changed kept judged.rows.items
+    → n ≡ weight (step w call).world → IsPatched judged.patch n before after
+    → StandsFor kept' after (step w call).world
+stands_next kept kept' before after w call judged n s j e weighs p = record {
+  running = j.running;
+  simple = j.simple;
+  stored = e ∙ j.stored;
+  scale = p.scale ∙ s.scale ∙ j.rest.scale;
+  sessions = p.sessions ∙ ap (patched judged.patch) s.sessions ∙ j.sessions;
+  units = p.units ∙ ap (units_after judged.patch) s.units ∙ j.units;
+  weight = p.weight ∙ weighs;
+  image = ap Some p.image ∙ s.image ∙ j.rest.image;
+  active = p.active ∙ s.active ∙ j.rest.active;
+  clock = p.clock ∙ ap (clock_after judged.patch) s.clock ∙ j.clock;
+}
+
+-- the same tables stand for the same world
+pub stands_same : (kept kept' : RowMap) (before after : Tables) (w : World) → StandsFor kept before w → kept' ≡ kept
+    → IsSame before after → StandsFor kept' after w
+stands_same kept kept' before after w s e p = record {
+  running = s.running;
+  simple = s.simple;
+  stored = e ∙ s.stored;
+  scale = p.scale ∙ s.scale;
+  sessions = p.sessions ∙ s.sessions;
+  units = p.units ∙ s.units;
+  weight = p.weight ∙ s.weight;
+  image = ap Some p.image ∙ s.image;
+  active = p.active ∙ s.active;
+  clock = p.clock ∙ s.clock;
+}
+
+-- after a call, or without memory, the core stands for a world
+pub stands_still : {X Y : Type 0} (result : Result X Y) (kept : RowMap) (tables : Tables) (w v : World)
+    → OnOk result (StandsFor kept tables v) → OnErr result (StandsFor kept tables w)
+    → (x : World) × StandsFor kept tables x
+stands_still (Ok x) kept tables w v next stays = (v, next)
+stands_still (Err y) kept tables w v next stays = (w, stays)
