@@ -69,6 +69,7 @@ fn judge_state(
     tables: &Tables,
     id: SessionId,
 ) -> Result<Judged, AllocError>
+    requires stands { (w : World) × StandsFor rows.now tables.now w }
     ensures judged { (w : World) → StandsFor rows.now tables.now w → IfOk result (λ j. IsJudged j rows.now w (calls.StateOf id)) }
     ensures placed { IfOk result (λ j. IsPlaced j.patch tables.now.sessions.items) }
     ensures ascending { IfOk result (λ j. IsStrictlySortedBy (slice_cmp nat_cmp) (keys_of j.rows.items)) }
