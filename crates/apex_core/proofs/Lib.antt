@@ -5,3 +5,4 @@ pub mod Performed
 pub mod Places
 pub mod Search
 pub mod Simple
+pub mod Weights

@@ -1,8 +1,6 @@
--- What a call leaves that was judged and done. Callers want `weighs_next`,
--- `is_small`, `stands_next`, `stands_same` and `stands_still`.
-use Rattle.std.proofs.Common.{◌≡◌, ◌≤◌, ◌<◌, ◌^◌, ℕ, List, Some, sym, ap, subst, ◌∙◌, arith, Result, Ok, Err}
-use Rattle.std.specs.declared.alloc.Global.{Global}
-use Rattle.std.specs.declared.vec.Vec.{Vec}
+-- What a call leaves that was judged and done. Callers want `weighs`,
+-- `small_now`, `small_next`, `weighs_next`, `stands_next`, `stands_same` and `stands_still`.
+use Rattle.std.proofs.Common.{◌≡◌, ◌≤◌, ◌<◌, ◌^◌, ℕ, Some, sym, ap, subst, ◌∙◌, arith, Result, Ok, Err}
 use Rattle.std.specs.Prelude.{OnOk, OnErr}
 use Rattle.apex_base.specs.declared.numbers.Scale.{Scale}
 use Rattle.apex_base.specs.declared.numbers.Scale.TheVariants.{Small, Standard}
@@ -10,34 +8,43 @@ use Rattle.apex_base.specs.Keys.{RowMap}
 use Rattle.apex_base.specs.Numbers.{scale_file_weight}
 use Rattle.apex_base.specs.RowSums.{kept_weight}
 use Rattle.apex_world.specs.declared.calls.Call.{Call}
+use Rattle.apex_world.specs.Lawful.{Lawful}
 use Rattle.apex_world.specs.Limits.{weight}
+use Rattle.apex_world.specs.Rows.{rows}
 use Rattle.apex_world.specs.Step.{step}
 use Rattle.apex_world.specs.World.{World}
 use Rattle.apex_world.proofs.RowWeightLemmas.{file_rows_weigh}
-use Rattle.row_map.specs.Rows.{changed, rows_of}
+use Rattle.row_map.specs.Rows.{changed}
 use Rattle.apex_core.specs.declared.judged.Judged.{Judged}
 use Rattle.apex_core.specs.declared.tables.Tables.{Tables}
 use Rattle.apex_core.specs.Core.{StandsFor}
 use Rattle.apex_core.specs.Judged.{IsJudged, IsPatched, IsSame, patched, clock_after, units_after}
 
-small_scale : (scale : Scale) (n : ℕ) → n ≤ scale_file_weight scale → n < 2 ^ 64
+small_scale : (scale : Scale) (n : ℕ) → n ≤ scale_file_weight scale → n < 2 ^ 32
 small_scale Small n low = omega (arith, low)
 small_scale Standard n low = omega (arith, low)
 
--- the rows after a call that was judged weigh as much as the modules that its world keeps
-pub weighs_next : (kept after : RowMap) (w : World) (call : Call) (judged : Judged) (entries : List (Vec ℕ Global × List ℕ))
-    → IsJudged judged kept w call → after ≡ changed kept judged.rows.items → rows_of entries ≡ after
-    → kept_weight (rows_of entries) ≡ weight (step w call).world
-weighs_next kept after w call judged entries j same is =
-    ap kept_weight (is ∙ same ∙ j.stored)
-    ∙ file_rows_weigh (step w call).world j.running.lawful
+-- the rows of a world weigh little
+small_rows : (kept : RowMap) (w : World) → Lawful w → kept ≡ rows w → kept_weight kept < 2 ^ 32
+small_rows kept w law e = small_scale w.scale (kept_weight kept)
+    (subst (λ (n : ℕ). n ≤ scale_file_weight w.scale) (sym (ap kept_weight e ∙ file_rows_weigh w law)) law.bounds.weight)
 
--- and that is a small number
-pub is_small : (w : World) (call : Call) (judged : Judged) (kept : RowMap) (n : ℕ) → IsJudged judged kept w call
-    → n ≡ weight (step w call).world → n < 2 ^ 64
-is_small w call judged kept n j e =
-    small_scale (step w call).world.scale n (subst (λ (m : ℕ). m ≤ scale_file_weight (step w call).world.scale) (sym e)
-    j.running.lawful.bounds.weight)
+module _ (kept : RowMap) (tables : Tables) (w : World) (s : StandsFor kept tables w) where
+  -- the rows weigh what the tables say
+  pub weighs : tables.weight ≡ kept_weight kept
+  weighs = s.weight ∙ sym (file_rows_weigh w s.running.lawful) ∙ sym (ap kept_weight s.stored)
+
+  pub small_now : kept_weight kept < 2 ^ 32
+  small_now = small_rows kept w s.running.lawful s.stored
+
+  -- and so after a call that was judged
+  pub small_next : (call : Call) (judged : Judged) → IsJudged judged kept w call
+      → kept_weight (changed kept judged.rows.items) < 2 ^ 32
+  small_next call judged j = small_rows (changed kept judged.rows.items) (step w call).world j.running.lawful j.stored
+
+  pub weighs_next : (call : Call) (judged : Judged) → IsJudged judged kept w call
+      → kept_weight (changed kept judged.rows.items) ≡ weight (step w call).world
+  weighs_next call judged j = ap kept_weight j.stored ∙ file_rows_weigh (step w call).world j.running.lawful
 
 -- after a call that was judged, the new rows and tables stand for its world
 pub stands_next : (kept kept' : RowMap) (before after : Tables) (w : World) (call : Call) (judged : Judged) (n : ℕ)

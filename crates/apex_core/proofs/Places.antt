@@ -103,9 +103,10 @@ found_at (x ∷ xs) zero id a l at = (of_eq id x xs (at x), λ s same. with_eq s
 found_at (x ∷ xs) (suc i) id a l at =
     let low = ascend_tail x xs i x a.0 (omega (arith, l)) in
     let here = at x in
-    let (e, f) = found_at xs i id a.1 (omega (arith, l)) at in
-    (of_lt id x xs (omega (arith, low, here)) ∙ e,
-    λ s same. with_lt s x xs (omega (arith, low, here, same)) ∙ ap (λ ys. x ∷ ys) (f s same))
+    let (e, f) = found_at xs i id a.1 (omega (arith, l)) at in (
+      of_lt id x xs (omega (arith, low, here)) ∙ e,
+      λ s same. with_lt s x xs (omega (arith, low, here, same)) ∙ ap (λ ys. x ∷ ys) (f s same),
+    )
 
 -- where all before are less and all from there on greater, none has the number, and one that has it comes there
 gap_at : (xs : List Record) (i : ℕ) (id : SessionId) → i ≤ length xs

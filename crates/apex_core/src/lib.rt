@@ -11,6 +11,7 @@ mod rows;
 mod sessions;
 mod submitting;
 mod tables;
+mod weighing;
 
 pub use judged::{Judged, Patch};
 pub use judging::judge;

@@ -14,9 +14,9 @@ use crate::judged::{Judged, Patch};
 use crate::judging::judge;
 use crate::sessions::session_with;
 use crate::tables::Tables;
+use crate::weighing::weight_after;
 use apex_base::{Kind, Pick, SessionId, State};
 use apex_world::{CallRef, Reply};
-use package_store::{kept_weight, rows_are_those_shown};
 use row_map::Rows;
 use std::alloc::{AllocError, Global};
 use std::marker::Model;
@@ -89,11 +89,10 @@ fn perform(
     let batch = judged.rows;
     let patch = judged.patch;
     make_room(tables, &patch)?;
+    let weight = weight_after(rows, tables.weight, &batch);
     let added = rows.make_room(alloc, &batch)?;
     drop(added);
     let _ = rows.change_all(batch);
-    rows_are_those_shown();
-    let weight = kept_weight(rows.by_key());
     apply(tables, patch, weight);
     Ok(reply)
 }
