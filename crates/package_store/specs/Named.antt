@@ -4,10 +4,8 @@ use Rattle.std.specs.Prelude.{false}
 use Rattle.std.specs.Str.{bytes_eq}
 use Rattle.apex_base.specs.declared.records.Part.{Part}
 use Rattle.apex_base.specs.declared.records.Record.{Record}
-use Rattle.apex_base.specs.declared.records.Target.{Target}
 use Rattle.apex_base.specs.Held.{is_undoable, is_standing, held, before}
 use Rattle.apex_base.specs.Spelling.{target_text}
-use Rattle.package_store.specs.Settled.{file_stays}
 
 -- what is noted of a key
 abbrev pub Note : Type 0
@@ -49,12 +47,12 @@ resettled None value = Some None
 resettled (Some None) value = Some None
 resettled (Some (Some wanted)) value = if bytes_eq wanted value then None else Some (Some wanted)
 
--- what is noted of a row's key once the row is seen
-abbrev pub note_row : List Target → List ℕ → List ℕ → Note → Note
-note_row kept [] value noted = noted
-note_row kept (tag ∷ rest) value noted =
+-- what is noted of a row's key once the row is seen, by whether a file's row stays
+abbrev pub note_row : (List ℕ → Bool) → List ℕ → List ℕ → Note → Note
+note_row stays [] value noted = noted
+note_row stays (tag ∷ rest) value noted =
     if (tag == 3) || (tag == 4) then resettled noted value
-    else (if (tag == 5) && not (file_stays kept rest) then Some None else noted)
+    else (if (tag == 5) && not (stays rest) then Some None else noted)
 
 -- this value is noted
 abbrev pub is_wanted : Note → List ℕ → Bool
