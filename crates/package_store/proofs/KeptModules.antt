@@ -1,11 +1,11 @@
 -- Which modules are kept, noted one after another. Callers want `part_noted`, `all_kept` and `same_note`.
-use Rattle.std.proofs.Common.{◌≡◌, ℕ, Bool, true, false, cond, ◌||◌, ◌&&◌, not, List, [], ◌∷◌, ◌++◌, fold, Option, Some}
+use Rattle.std.proofs.Common.{◌≡◌, ℕ, Bool, true, false, cond, ◌||◌, ◌&&◌, not, List, [], ◌∷◌, ◌++◌, fold, Some}
 use Rattle.std.proofs.Common.{None, flat_map, ap, sym, ◌∙◌, refl, inl, inr}
 use Rattle.std.specs.Cmp.{tied_then, unsigned_ties}
 use Rattle.std.specs.Int.{w32, from_be_bytes}
 use Rattle.std.specs.List.{list_any}
 use Rattle.std.specs.Ordering.{nat_cmp, is_eq}
-use Rattle.std.specs.Prelude.{◌==◌, is_some}
+use Rattle.std.specs.Prelude.{◌==◌}
 use Rattle.std.specs.Str.{bytes_eq}
 use Rattle.std.proofs.lemmas.Bool.{and_parts, or_cases, or_left, or_right}
 use Rattle.std.proofs.lemmas.Slice.Eq.{bytes_eq-Decides}
@@ -18,14 +18,13 @@ use Rattle.apex_base.specs.Held.{is_unfinished, is_undoable, is_standing, is_ava
 use Rattle.apex_base.specs.Held.{held, before, kept_for, kept, target_of}
 use Rattle.apex_base.specs.Members.{In}
 use Rattle.apex_base.specs.Settled.{stands_for}
-use Rattle.apex_base.proofs.Finding.{is_there}
 use Rattle.apex_base.proofs.MemberLemmas.{in_left, in_right, in_append, in_flat_map, in_flat_map_back, any_in, in_any}
 use Rattle.package_store.specs.declared.kept.KeptParts.{KeptParts}
 use Rattle.package_store.specs.Keeping.{part_cmp, keep_held, keep_for, has_part, stays_among}
 use Rattle.package_store.specs.Latest.{Best, best_of}
 use Rattle.package_store.specs.Named.{Note, resettled, note_row}
 use Rattle.package_store.specs.Settled.{file_stays}
-use Rattle.package_store.proofs.HeldNames.{Lists, stands_best}
+use Rattle.package_store.proofs.HeldNames.{Lists, both_ways, entry_stands, stands_entry}
 
 true_or : (a b : Bool) → cond a true b ≡ (a || b)
 true_or true b = refl
@@ -59,11 +58,6 @@ or_later false b c = refl
 or_none : (b : Bool) → b ≡ (b || false)
 or_none true = refl
 or_none false = refl
-
-both_ways : (a b : Bool) → (a ≡ true → b ≡ true) → (b ≡ true → a ≡ true) → a ≡ b
-both_ways true b f g = sym (f refl)
-both_ways false true f g = absurd (cc (g refl))
-both_ways false false f g = refl
 
 in_if : {X : Type 0} (b : Bool) (x y : X) → In x (cond b (y ∷ []) []) → (b ≡ true) × (y ≡ x)
 in_if true x y (inl e) = (refl, e)
@@ -143,8 +137,7 @@ module _ (records : List Record) (session : SessionId) (part : ℕ) where
     held_kept any =
         let (e, there, is) = any_in (λ (e : List ℕ × Best). is_it e.1.1) es any in
         let best : best_of records e.0 ≡ Some e.1 = lists.each e there in
-        let (r, in_r, stands) = any_in (stands_for e.0) records
-        (sym (stands_best records e.0) ∙ ap (λ (o : Option Best). is_some o) best) in
+        let (r, in_r, stands) = any_in (stands_for e.0) records (entry_stands records es lists e there) in
         let (standing, named) = and_parts _ _ stands in
         let (p, in_p, name) = any_in (λ (p : Part). bytes_eq p.name e.0) r.parts named in
         let holds : held records p.name ≡ e.1.1 =
@@ -169,10 +162,10 @@ module _ (records : List Record) (session : SessionId) (part : ℕ) where
         let named : list_any (λ (q : Part). bytes_eq q.name p.name) r.parts ≡ true =
         in_any (λ (q : Part). bytes_eq q.name p.name) p r.parts in_p ((bytes_eq-Decides p.name p.name).1 refl) in
         let stands : stands_for p.name r ≡ true = rw (standing, named) refl in
-        let (best, found) = is_there (best_of records p.name)
-        (stands_best records p.name ∙ in_any (stands_for p.name) r records in_r stands) in
+        let (best, found, there) = stands_entry records es lists p.name
+        (in_any (stands_for p.name) r records in_r stands) in
         let same : best.1 ≡ x = sym (ap target_of found) ∙ holds in
-        in_any (λ (e : List ℕ × Best). is_it e.1.1) (p.name, best) es (lists.all p.name best found)
+        in_any (λ (e : List ℕ × Best). is_it e.1.1) (p.name, best) es there
         (ap is_it same ∙ is)
 
     beside_there : (r : Record) (p : Part) (x : Target) → In r records → In p r.parts → is_it x ≡ true

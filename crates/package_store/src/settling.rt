@@ -40,8 +40,8 @@ pub fn settle(
     ensures exact { IfOk result (λ changes. AllByRecursion (IsChange (rows_of rows.now.entries)) changes.items) }
     ensures ascending { IfOk result (λ changes. IsStrictlySortedBy (slice_cmp nat_cmp) (keys_of changes.items)) }
 {
-    let mut changes = name_changes(alloc, records)?;
     let held = held_by_name(alloc, records)?;
+    let mut changes = name_changes(alloc, records, &held)?;
     let kept = KeptParts::of(alloc, records, &held)?;
     for (key, value) in rows {
         settle_row(alloc, &mut changes, &kept, key, value.as_slice())?;

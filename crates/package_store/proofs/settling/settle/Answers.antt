@@ -10,7 +10,6 @@ use Rattle.package_store.specs.Named.{Note, note_row}
 use Rattle.package_store.specs.Settled.{settled_value, file_stays, IsChange}
 use Rattle.package_store.specs.Spelled.{change_to}
 use Rattle.package_store.proofs.KeptModules.{same_note}
-use Rattle.package_store.proofs.NameNotes.{all_noted}
 use Rattle.package_store.proofs.Noted.{all_made, all_change}
 use Rattle.package_store.proofs.RowNotes.{if_ok}
 use Rattle.package_store.proofs.RowSteps.{Settling, starts, row_settled, ends}
@@ -22,7 +21,7 @@ loop-key-init c =
     let gives = c.into_iter-key-iterator.ensures.into_iter_gives in
     subst (λ es. Settling records (rows_of c.args.rows.now.entries) c.in_ok-changes.changes (shown es)) (sym gives.0)
     (starts records c.args.rows.now.entries c.in_ok-changes.changes
-    (λ q. c.in_ok-changes.ensures q ∙ all_noted records q) gives.5)
+    c.in_ok-changes.ensures gives.5)
 
 pub loop-key-preserved : goal.loop-key-preserved
 loop-key-preserved c =
