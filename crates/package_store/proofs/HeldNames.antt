@@ -84,7 +84,8 @@ some_if false rest activation p any e = e
 
 module _ (name : List ℕ) where
   some_part : (activation : ℕ) (ps : List Part)
-      → is_some {T = Best} (option_map (λ (p : Part). (activation, p.target)) (find (λ (p : Part). bytes_eq p.name name) ps))
+      → is_some {T = Best} (option_map (λ (p : Part). (activation, p.target))
+      (find (λ (p : Part). bytes_eq p.name name) ps))
       ≡ list_any (λ (p : Part). bytes_eq p.name name) ps
   some_part activation [] = refl
   some_part activation (p ∷ ps) = some_if (bytes_eq p.name name)

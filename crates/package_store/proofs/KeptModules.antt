@@ -143,7 +143,8 @@ module _ (records : List Record) (session : SessionId) (part : ℕ) where
         let holds : held records p.name ≡ e.1.1 =
         ap (λ (n : List ℕ). held records n) ((bytes_eq-Decides p.name e.0).0 name) ∙ ap target_of best in
         kept_is r p e.1.1 in_r in_p (in_left e.1.1 (own r p ++ holding r p) (old r p)
-        (in_right e.1.1 (own r p) (holding r p) (if_in (is_standing r.state) e.1.1 (held records p.name) standing holds))) is
+        (in_right e.1.1 (own r p) (holding r p)
+        (if_in (is_standing r.state) e.1.1 (held records p.name) standing holds))) is
 
     beside_kept : list_any any_beside records ≡ true → is_target (kept records) session part ≡ true
     beside_kept any =

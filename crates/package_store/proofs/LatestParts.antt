@@ -46,9 +46,11 @@ module _ (activation : ℕ) (name : List ℕ) where
   later_none None = refl
   later_none (Some b) = refl
 
-  same_boot : (c : Best) → c.0 ≡ activation → (o : Option Part) → later (Some c) (option_map (λ (p : Part). (activation, p.target)) o) ≡ Some c
+  same_boot : (c : Best) → c.0 ≡ activation → (o : Option Part)
+      → later (Some c) (option_map (λ (p : Part). (activation, p.target)) o) ≡ Some c
   same_boot c e None = refl
-  same_boot c e (Some p) = ap (λ (t : Bool). cond t (Some (activation, p.target)) (Some c)) (le-ltb c.0 activation (omega (arith, e)))
+  same_boot c e (Some p) = ap (λ (t : Bool). cond t (Some (activation, p.target)) (Some c))
+      (le-ltb c.0 activation (omega (arith, e)))
 
   later_if : (t : Bool) (b c : Best) → nat_lt b.0 c.0 ≡ t → c.0 ≡ activation → (o : Option Part)
       → later (cond t (Some c) (Some b)) (option_map (λ (p : Part). (activation, p.target)) o)

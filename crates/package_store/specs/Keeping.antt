@@ -19,16 +19,20 @@ part_cmp a b = ordering_then (nat_cmp a.0 b.0) (nat_cmp a.1 b.1)
 abbrev pub has_part : KeptParts → SessionId → ℕ → Bool
 has_part kept session part = sorted.contains part_cmp kept.parts (session.0, part)
 
--- whether it is noted once what a name holds is
+-- whether it is noted once what a name holds was noted
 abbrev pub keep_held : SessionId → ℕ → Bool → List ℕ × Best → Bool
 keep_held session part noted entry = is_module session part entry.1.1 || noted
 
--- once what a session keeps for one of its names, beside what the name holds, is
+-- once a session's own module of one of its names was noted, if the session is unfinished
+abbrev pub keep_own : Record → SessionId → ℕ → Bool → Part → Bool
+keep_own r session part noted p = if is_unfinished r.state then is_module session part p.target || noted else noted
+
+-- and then what the name held before, if the session can be undone or rolled back
 abbrev pub keep_for : List Record → Record → SessionId → ℕ → Bool → Part → Bool
 keep_for records r session part noted p =
-    (if is_undoable r.state || is_available r.rollback then is_module session part (before records r p.name)
-    || (if is_unfinished r.state then is_module session part p.target || noted else noted)
-    else (if is_unfinished r.state then is_module session part p.target || noted else noted))
+    if is_undoable r.state || is_available r.rollback
+    then is_module session part (before records r p.name) || keep_own r session part noted p
+    else keep_own r session part noted p
 
 -- a file's row stays
 abbrev pub stays_among : KeptParts → List ℕ → Bool

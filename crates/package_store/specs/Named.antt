@@ -36,6 +36,7 @@ note_backup records r name key noted =
 abbrev pub note_backups : List Record → Record → List ℕ → Note → Note
 note_backups records r key noted = fold (λ noted (p : Part). note_backup records r p.name key noted) noted r.parts
 
+-- but for no session that can't be undone
 abbrev pub if_undoable : List Record → List ℕ → Note → Record → Note
 if_undoable records key noted r = if is_undoable r.state then note_backups records r key noted else noted
 
