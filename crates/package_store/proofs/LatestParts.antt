@@ -1,40 +1,63 @@
--- The latest that sessions have for a name, found part after part. Callers want `put_part` and
--- `with_parts`.
-use Rattle.std.proofs.Common.{◌≡◌, ℕ, Bool, true, false, cond, List, [], ◌∷◌, fold, Option, Some, None, ap, sym, ◌∙◌}
+-- The latest that sessions have for a name, found part after part. Callers want `put_later`, `put_same`,
+-- `put_first` and `with_parts`.
+use Rattle.std.proofs.Common.{◌≡◌, ◌<◌, ◌≤◌, ℕ, Bool, true, false, cond, List, [], ◌∷◌, fold, Option, Some, None, ap, sym, ◌∙◌}
 use Rattle.std.proofs.Common.{refl, arith}
 use Rattle.std.specs.Prelude.{find, nat_lt}
 use Rattle.std.specs.Cmp.Lexicographic.{slice_cmp}
 use Rattle.std.specs.Option.{option_map}
 use Rattle.std.specs.Ordering.{nat_cmp, is_eq}
 use Rattle.std.specs.Str.{bytes_eq}
-use Rattle.std.proofs.lemmas.Bool.{le-ltb}
+use Rattle.std.proofs.lemmas.Bool.{le-ltb, lt-ltb}
 use Rattle.std.proofs.lemmas.Map.Text.{is_eq-slice_cmp}
 use Rattle.std.proofs.lemmas.Slice.Eq.{bytes_eq-Decides}
 use Rattle.apex_base.specs.declared.records.Part.{Part}
 use Rattle.apex_base.specs.Held.{later}
-use Rattle.package_store.specs.Latest.{Best, with_part, is_later}
+use Rattle.package_store.specs.Latest.{Best, with_part}
 
 -- ---- one part more
 
-put_later : (best : Option Best) (c : Best) → is_later c.0 best ≡ true → Some c ≡ later best (Some c)
-put_later None c e = refl
-put_later (Some b) c e = ap (λ (t : Bool). cond t (Some c) (Some b)) (sym e)
+later_put : (best c : Best) → best.0 < c.0 → Some c ≡ later (Some best) (Some c)
+later_put best c low = ap (λ (t : Bool). cond t (Some c) (Some best)) (sym (lt-ltb best.0 c.0 low))
+
+earlier_stays : (best c : Best) → c.0 ≤ best.0 → Some best ≡ later (Some best) (Some c)
+earlier_stays best c high = ap (λ (t : Bool). cond t (Some c) (Some best)) (sym (le-ltb best.0 c.0 high))
 
 module _ (get : List ℕ → Option Best) (activation : ℕ) (p : Part) where
-  put_if : (b : Bool) (name : List ℕ) → bytes_eq p.name name ≡ b → is_later activation (get p.name) ≡ true
-      → cond b (Some (activation, p.target)) (get name)
-      ≡ cond b (later (get name) (Some (activation, p.target))) (get name)
-  put_if true name e late = put_later (get p.name) (activation, p.target) late
-      ∙ ap (λ (n : List ℕ). later (get n) (Some (activation, p.target))) ((bytes_eq-Decides p.name name).0 e)
-  put_if false name e late = refl
+  part_if : (b : Bool) (value : Option Best) (name : List ℕ) → bytes_eq p.name name ≡ b
+      → value ≡ later (get p.name) (Some (activation, p.target))
+      → cond b value (get name) ≡ cond b (later (get name) (Some (activation, p.target))) (get name)
+  part_if true value name e is =
+      is ∙ ap (λ (n : List ℕ). later (get n) (Some (activation, p.target))) ((bytes_eq-Decides p.name name).0 e)
+  part_if false value name e is = refl
 
-  -- a part of a later boot is put
-  pub put_part : (name : List ℕ) → is_later activation (get p.name) ≡ true
+  -- what is put for the part's name is the later one
+  put_part : (value : Option Best) (name : List ℕ) → value ≡ later (get p.name) (Some (activation, p.target))
+      → cond (is_eq (slice_cmp nat_cmp p.name name)) value (get name) ≡ with_part activation name (get name) p
+  put_part value name is =
+      ap (λ (b : Bool). cond b value (get name)) (is_eq-slice_cmp p.name name)
+      ∙ part_if (bytes_eq p.name name) value name refl is
+
+  -- the part is put where its boot is later
+  pub put_later : (best : Best) (name : List ℕ) → Some best ≡ get p.name → best.0 < activation
       → cond (is_eq (slice_cmp nat_cmp p.name name)) (Some (activation, p.target)) (get name)
       ≡ with_part activation name (get name) p
-  put_part name late =
-      ap (λ (b : Bool). cond b (Some (activation, p.target)) (get name)) (is_eq-slice_cmp p.name name)
-      ∙ put_if (bytes_eq p.name name) name refl late
+  put_later best name there low = put_part (Some (activation, p.target)) name
+      (later_put best (activation, p.target) low
+      ∙ ap (λ (o : Option Best). later o (Some (activation, p.target))) there)
+
+  -- and else what is there stays
+  pub put_same : (best : Best) (name : List ℕ) → Some best ≡ get p.name → activation ≤ best.0
+      → cond (is_eq (slice_cmp nat_cmp p.name name)) (Some best) (get name) ≡ with_part activation name (get name) p
+  put_same best name there high = put_part (Some best) name
+      (earlier_stays best (activation, p.target) high
+      ∙ ap (λ (o : Option Best). later o (Some (activation, p.target))) there)
+
+  -- or it is put where nothing is there
+  pub put_first : (name : List ℕ) → None ≡ get p.name
+      → cond (is_eq (slice_cmp nat_cmp p.name name)) (Some (activation, p.target)) (get name)
+      ≡ with_part activation name (get name) p
+  put_first name none = put_part (Some (activation, p.target)) name
+      (ap (λ (o : Option Best). later o (Some (activation, p.target))) none)
 
 -- ---- all parts of a session
 

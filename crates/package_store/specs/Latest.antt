@@ -1,5 +1,5 @@
 -- What all names hold, looked for in one walk over the sessions.
-use Rattle.std.specs.Prelude.{ℕ, ◌≡◌, Bool, true, nat_lt, List, fold, Option, Some, None, if◌then◌else◌}
+use Rattle.std.specs.Prelude.{ℕ, ◌≡◌, List, fold, Option, Some, None, if◌then◌else◌}
 use Rattle.std.specs.BTreeMap as tree
 use Rattle.std.specs.BTreeMap.{BTreeMap}
 use Rattle.std.specs.Cmp.Lexicographic.{slice_cmp}
@@ -21,11 +21,6 @@ best_of records name = fold (λ best r. later best (candidate (is_standing r.sta
 -- the map has it for each name
 abbrev pub AreHeld : List Record → BTreeMap (List ℕ) Best → Type 0
 AreHeld records held = (name : List ℕ) → tree.get (slice_cmp nat_cmp) held name ≡ best_of records name
-
--- a boot is later than that of what was found so far
-abbrev pub is_later : ℕ → Option Best → Bool
-is_later activation None = true
-is_later activation (Some best) = nat_lt best.0 activation
 
 -- what is found for a name once a part of a session that this boot activated is seen
 abbrev pub with_part : ℕ → List ℕ → Option Best → Part → Option Best

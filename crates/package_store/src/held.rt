@@ -4,7 +4,7 @@ ghost use Rattle.std.specs.BTreeMap as tree;
 ghost use Rattle.std.specs.Cmp.Lexicographic.{slice_cmp};
 ghost use Rattle.std.specs.Ordering.{nat_cmp};
 ghost use Rattle.apex_base.specs.Held.{candidate, later};
-ghost use Rattle.package_store.specs.Latest.{AreHeld, with_part, is_later};
+ghost use Rattle.package_store.specs.Latest.{AreHeld, with_part};
 
 use apex_base::{Name, Part, Record, Target};
 use std::alloc::{AllocError, Global};
@@ -40,18 +40,13 @@ fn add_part(held: &mut HeldByName, activation: u32, p: &Part) -> Result<(), Allo
     ensures { OnOk result ((name : List ℕ) → tree.get (slice_cmp nat_cmp) held.new name
         ≡ with_part activation name (tree.get (slice_cmp nat_cmp) held.old name) p.now) }
 {
-    let best = held.get(&p.name).copied();
-    if is_later(activation, best) {
-        held.insert(p.name, (activation, p.target))?;
+    let found = (activation, p.target);
+    if let Some(best) = held.get_mut(&p.name) {
+        if best.0 < activation {
+            *best = found;
+        }
+        return Ok(());
     }
+    held.insert(p.name, found)?;
     Ok(())
-}
-
-fn is_later(activation: u32, best: Option<(u32, Target)>) -> bool
-    ensures { result ≡ is_later activation best }
-{
-    match best {
-        Some((boot, _)) => boot < activation,
-        None => true,
-    }
 }
