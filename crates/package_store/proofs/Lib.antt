@@ -1,5 +1,8 @@
 mod Filed
 mod Fronts
+mod HeldNames
+mod KeptModules
+mod LatestParts
 mod Maps
 mod NameNotes
 mod Noted

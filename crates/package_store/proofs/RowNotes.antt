@@ -8,9 +8,7 @@ use Rattle.std.specs.Str.{bytes_eq}
 use Rattle.std.proofs.lemmas.List.{take_all}
 use Rattle.std.proofs.lemmas.Map.Text.{is_eq-slice_cmp}
 use Rattle.std.proofs.lemmas.Slice.Eq.{bytes_eq-Decides}
-use Rattle.apex_base.specs.declared.records.Target.{Target}
 use Rattle.package_store.specs.Named.{Note, or_first, resettled, note_row, is_wanted}
-use Rattle.package_store.specs.Settled.{file_stays}
 use Rattle.package_store.specs.Spelled.{ChangeMap}
 use Rattle.package_store.proofs.Maps.{at_insert, at_remove, turned}
 
@@ -78,15 +76,15 @@ pub first_noted : (m : ChangeMap) (key q : List ℕ) (value : Note) → fin.get 
 first_noted m key q value none = first_if (bytes_eq q key) m key q value refl none
 
 -- a file's row whose module isn't kept
-pub file_gone : (kept : List Target) (key value : List ℕ) (n : Note) → 1 ≤ length key → get_or key 0 0 ≡ 5
-    → file_stays kept (take (length key - 1) (drop 1 key)) ≡ false → note_row kept key value n ≡ Some None
-file_gone kept [] value n long five e = absurd (omega arith)
-file_gone kept (tag ∷ rest) value n long five e =
+pub file_gone : (stays : List ℕ → Bool) (key value : List ℕ) (n : Note) → 1 ≤ length key → get_or key 0 0 ≡ 5
+    → stays (take (length key - 1) (drop 1 key)) ≡ false → note_row stays key value n ≡ Some None
+file_gone stays [] value n long five e = absurd (omega arith)
+file_gone stays (tag ∷ rest) value n long five e =
     let is : tag ≡ 5 = five in
     let count : length (tag ∷ rest) ≡ suc (length rest) = refl in
     let all : take (length (tag ∷ rest) - 1) rest ≡ rest =
     take_all (length (tag ∷ rest) - 1) rest (omega (arith, count)) in
-    let gone : file_stays kept rest ≡ false = ap (file_stays kept) (sym all) ∙ e in
+    let gone : stays rest ≡ false = ap stays (sym all) ∙ e in
     rw (is, gone) refl
 
 pub bytes_turned : (a b : List ℕ) → bytes_eq a b ≡ bytes_eq b a

@@ -49,7 +49,7 @@ row_if false false false d active backup value n e = e ∙ same_value value
 
 -- what is noted of a row's key once it is seen
 row_seen : (records : List Record) (key value : List ℕ) (n : Note) → n ≡ change_to None (settled records key None)
-    → note_row (kept records) key value n ≡ change_to (Some value) (settled records key (Some value))
+    → note_row (file_stays (kept records)) key value n ≡ change_to (Some value) (settled records key (Some value))
 row_seen records [] value n e = e ∙ same_value value
 row_seen records (tag ∷ rest) value n e =
     row_if (tag == 3) (tag == 4) (tag == 5) (file_stays (kept records) rest) (active_of records rest)
@@ -94,7 +94,11 @@ module _ (records : List Record) where
 
   module _ (rows : RowMap) (changes changes' : ChangeMap) (e : List ℕ × List ℕ) (rest : Rows)
       (s : Settling records rows changes (e ∷ rest)) (noted : (q : List ℕ) → fin.get changes' q
-      ≡ cond (bytes_eq q e.0) (note_row (kept records) e.0 e.1 (fin.get changes e.0)) (fin.get changes q)) where
+      ≡ cond (bytes_eq q e.0) (note_row (file_stays (kept records)) e.0 e.1 (fin.get changes e.0))
+      (fin.get changes q)) where
+    abbrev row : Note
+    row = note_row (file_stays (kept records)) e.0 e.1 (fin.get changes e.0)
+
     last : fin.find (slice_cmp nat_cmp) e.0 rest ≡ None
     unfolding IsStrictlySortedBy
     last = not_below e.0 rest s.up.0
@@ -122,13 +126,13 @@ module _ (records : List Record) where
         let old : fin.get changes e.0 ≡ change_to None (settled records e.0 None) =
         s.noted e.0 ∙ ap (λ (o : Option (List ℕ)). change_to o (settled records e.0 o)) before in
         noted q
-        ∙ ap (λ (b : Bool). cond b (note_row (kept records) e.0 e.1 (fin.get changes e.0)) (fin.get changes q)) eq
+        ∙ ap (λ (b : Bool). cond b row (fin.get changes q)) eq
         ∙ row_seen records e.0 e.1 (fin.get changes e.0) old
         ∙ ap (λ (o : Option (List ℕ)). change_to o (settled records e.0 o)) (sym after)
         ∙ ap (λ (k : List ℕ). change_to (seen rows rest k) (settled records k (seen rows rest k))) (sym same)
     noted_if false q ne =
         noted q
-        ∙ ap (λ (b : Bool). cond b (note_row (kept records) e.0 e.1 (fin.get changes e.0)) (fin.get changes q)) ne
+        ∙ ap (λ (b : Bool). cond b row (fin.get changes q)) ne
         ∙ s.noted q
         ∙ ap (λ (o : Option (List ℕ)). change_to (cond (is_some o) None (fin.get rows q))
         (settled records q (cond (is_some o) None (fin.get rows q)))) (others q ne)

@@ -1,3 +1,5 @@
+pub mod Keeping
+pub mod Latest
 pub mod Named
 pub mod Placed
 pub mod Settled

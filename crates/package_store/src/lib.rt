@@ -2,6 +2,8 @@
 #![tactic(auto)]
 
 mod changes;
+mod held;
+mod kept;
 mod key;
 mod laws;
 mod naming;

@@ -1,75 +1,85 @@
 //! The rows of names that sessions call for, noted as changes of no rows.
-ghost use Rattle.std.specs.Prelude.{◌≡◌, ℕ, List, IfOk, OnOk};
+ghost use Rattle.std.specs.Prelude.{◌≡◌, ℕ, List, None, IfOk, OnOk};
+ghost use Rattle.std.specs.BTreeMap as tree;
+ghost use Rattle.std.specs.Cmp.Lexicographic.{slice_cmp};
 ghost use Rattle.std.specs.FinMap as fin;
-ghost use Rattle.package_store.specs.Named.{note_active, note_backup, note_name, note_names, note_all};
-ghost use Rattle.package_store.specs.Settled.{HaveParts};
+ghost use Rattle.std.specs.Ordering.{nat_cmp};
+ghost use Rattle.apex_base.specs.Held.{target_of};
+ghost use Rattle.package_store.specs.Latest.{AreHeld};
+ghost use Rattle.package_store.specs.Named.{note_active, note_held, note_backup, note_backups};
+ghost use Rattle.package_store.specs.Settled.{HasPart, HaveParts, settled};
+ghost use Rattle.package_store.specs.Spelled.{change_to};
 
 use crate::changes::Changes;
+use crate::held::HeldByName;
 use crate::key::{ACTIVE, BACKUP, name_key, target_row};
-use apex_base::{Name, Record, before, held};
+use apex_base::{Name, Record, Target, before};
 use std::alloc::{AllocError, Global};
 
 /// What all sessions call for.
-pub(crate) fn name_changes(alloc: Global, records: &[Record]) -> Result<Changes, AllocError>
-    requires { HaveParts records.now }
-    ensures { IfOk result (λ changes. (key : List ℕ) → fin.get changes key ≡ note_all records.now key) }
+pub(crate) fn name_changes(
+    alloc: Global,
+    records: &[Record],
+    held: &HeldByName,
+) -> Result<Changes, AllocError>
+    requires parts { HaveParts records.now }
+    requires held { AreHeld records.now held.now }
+    ensures { IfOk result (λ changes. (key : List ℕ)
+        → fin.get changes key ≡ change_to None (settled records.now key None)) }
 {
-    let mut changes = Changes::new(alloc);
+    let mut changes = active_changes(alloc, held)?;
     for r in records {
-        add_names(alloc, &mut changes, records, r)?;
+        if r.state.is_undoable() {
+            add_backups(alloc, &mut changes, records, r)?;
+        }
     }
     Ok(changes)
 }
 
-fn add_names(
-    alloc: Global,
-    changes: &mut Changes,
-    records: &[Record],
-    r: &Record,
-) -> Result<(), AllocError>
-    requires { HaveParts records.now }
-    ensures { OnOk result ((key : List ℕ)
-        → fin.get changes.new key ≡ note_names records.now r.now key (fin.get changes.old key)) }
+/// What names hold.
+fn active_changes(alloc: Global, held: &HeldByName) -> Result<Changes, AllocError>
+    requires { (name : List ℕ) → HasPart (target_of (tree.get (slice_cmp nat_cmp) held.now name)) }
+    ensures noted { IfOk result (λ changes. (key : List ℕ)
+        → fin.get changes key ≡ note_held held.now.entries key) }
+    ensures ordered { tree.IsOrdered (slice_cmp nat_cmp) held.now }
 {
-    for p in r.parts.as_slice() {
-        add_name(alloc, changes, records, r, &p.name)?;
+    let mut changes = Changes::new(alloc);
+    for (name, best) in held {
+        add_active(alloc, &mut changes, name, best.1)?;
     }
-    Ok(())
-}
-
-fn add_name(
-    alloc: Global,
-    changes: &mut Changes,
-    records: &[Record],
-    r: &Record,
-    name: &Name,
-) -> Result<(), AllocError>
-    requires { HaveParts records.now }
-    ensures { OnOk result ((key : List ℕ)
-        → fin.get changes.new key ≡ note_name records.now r.now name.now key (fin.get changes.old key)) }
-{
-    if r.state.is_standing() {
-        add_active(alloc, changes, records, name)?;
-    }
-    if r.state.is_undoable() {
-        add_backup(alloc, changes, records, r, name)?;
-    }
-    Ok(())
+    Ok(changes)
 }
 
 fn add_active(
     alloc: Global,
     changes: &mut Changes,
-    records: &[Record],
     name: &Name,
+    target: Target,
+) -> Result<(), AllocError>
+    requires { HasPart target }
+    ensures { OnOk result ((key : List ℕ)
+        → fin.get changes.new key ≡ note_active name.now target key (fin.get changes.old key)) }
+{
+    let key = name_key(alloc, ACTIVE, name)?;
+    let value = target_row(alloc, target)?;
+    changes.put(key, Some(value))
+}
+
+/// What names held before a session.
+fn add_backups(
+    alloc: Global,
+    changes: &mut Changes,
+    records: &[Record],
+    r: &Record,
 ) -> Result<(), AllocError>
     requires { HaveParts records.now }
     ensures { OnOk result ((key : List ℕ)
-        → fin.get changes.new key ≡ note_active records.now name.now key (fin.get changes.old key)) }
+        → fin.get changes.new key ≡ note_backups records.now r.now key (fin.get changes.old key)) }
 {
-    let key = name_key(alloc, ACTIVE, name)?;
-    let value = target_row(alloc, held(records, name))?;
-    changes.put(key, Some(value))
+    for p in r.parts.as_slice() {
+        add_backup(alloc, changes, records, r, &p.name)?;
+    }
+    Ok(())
 }
 
 fn add_backup(

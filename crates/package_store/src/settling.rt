@@ -8,13 +8,16 @@ ghost use Rattle.std.specs.Ordering.{nat_cmp};
 ghost use Rattle.std.specs.Str.{bytes_eq};
 ghost use Rattle.row_codec.specs.Batch.{keys_of};
 ghost use Rattle.row_map.specs.Rows.{changed, rows_of};
+ghost use Rattle.package_store.specs.Keeping.{stays_among};
 ghost use Rattle.package_store.specs.Named.{note_row, resettled};
-ghost use Rattle.package_store.specs.Settled.{settled_value, file_stays, IsChange, HaveParts};
+ghost use Rattle.package_store.specs.Settled.{settled_value, IsChange, HaveParts};
 
 use crate::changes::Changes;
+use crate::held::held_by_name;
+use crate::kept::KeptParts;
 use crate::key::{ACTIVE, BACKUP, FILE};
 use crate::naming::name_changes;
-use apex_base::{Bytes, Record, SessionId, Target, is_target, kept};
+use apex_base::{Bytes, Record, SessionId};
 use row_codec::Row;
 use std::alloc::{AllocError, Global};
 use std::collections::BTreeMap;
@@ -37,10 +40,11 @@ pub fn settle(
     ensures exact { IfOk result (λ changes. AllByRecursion (IsChange (rows_of rows.now.entries)) changes.items) }
     ensures ascending { IfOk result (λ changes. IsStrictlySortedBy (slice_cmp nat_cmp) (keys_of changes.items)) }
 {
-    let mut changes = name_changes(alloc, records)?;
-    let targets = kept(alloc, records)?;
+    let held = held_by_name(alloc, records)?;
+    let mut changes = name_changes(alloc, records, &held)?;
+    let kept = KeptParts::of(alloc, records, &held)?;
     for (key, value) in rows {
-        settle_row(alloc, &mut changes, &targets, key, value.as_slice())?;
+        settle_row(alloc, &mut changes, &kept, key, value.as_slice())?;
     }
     changes.into_rows(alloc)
 }
@@ -48,12 +52,12 @@ pub fn settle(
 fn settle_row(
     alloc: Global,
     changes: &mut Changes,
-    kept: &[Target],
+    kept: &KeptParts,
     key: &[u8],
     value: &[u8],
 ) -> Result<(), AllocError>
     ensures { OnOk result ((q : List ℕ) → fin.get changes.new q
-        ≡ (if bytes_eq q key.now then note_row kept.now key.now value.now (fin.get changes.old key.now)
+        ≡ (if bytes_eq q key.now then note_row (stays_among kept.now) key.now value.now (fin.get changes.old key.now)
         else fin.get changes.old q)) }
 {
     let [tag, rest @ ..] = key else {
@@ -87,13 +91,13 @@ fn settle_name(
     Ok(())
 }
 
-fn file_stays(kept: &[Target], rest: &[u8]) -> bool
-    ensures { result ≡ file_stays kept.now rest.now }
+fn file_stays(kept: &KeptParts, rest: &[u8]) -> bool
+    ensures { result ≡ stays_among kept.now rest.now }
 {
     match rest {
         [a, b, c, d, part, ..] => {
             let session = SessionId(u32::from_be_bytes([*a, *b, *c, *d]));
-            is_target(kept, session, u32::from(*part))
+            kept.has(session, u32::from(*part))
         }
         _ => true,
     }

@@ -1,11 +1,28 @@
-use Rattle.std.proofs.Common.{ap, ◌∙◌}
-use Rattle.std.specs.Cmp.Lexicographic.{slice_cmp}
-use Rattle.std.specs.FinMap as fin
-use Rattle.std.specs.FinMap.{get-empty}
-use Rattle.std.specs.Ordering.{nat_cmp}
-use Rattle.package_store.specs.Spelled.{ChangeMap}
+use Rattle.std.proofs.Common.{◌≡◌, List, fold, take, Option, ap, sym, subst, ◌∙◌}
+use Rattle.std.proofs.lemmas.List.{take_all}
+use Rattle.apex_base.specs.declared.records.Record.{Record}
+use Rattle.apex_base.specs.Held.{target_of}
+use Rattle.package_store.specs.Latest.{Best}
+use Rattle.package_store.specs.Settled.{HasPart}
+use Rattle.package_store.specs.Named.{note_held, if_undoable}
+use Rattle.package_store.proofs.HeldNames.{Lists, lists}
+use Rattle.package_store.proofs.NameNotes.{all_noted}
+use Rattle.package_store.proofs.Parts.{held_part}
 use Rattle.package_store.proofs.naming.name_changes.Goals as goal
 
-pub loop-r-init : goal.loop-r-init
-loop-r-init c =
-    λ key. ap (λ (m : ChangeMap). fin.get m key) c.new-changes.ensures ∙ get-empty (slice_cmp nat_cmp) key
+pub active_changes-requires : goal.active_changes-requires
+active_changes-requires c = λ name.
+    subst (λ (best : Option Best). HasPart (target_of best)) (sym (c.requires.held name))
+    (held_part c.args.records.now name c.requires.parts)
+
+pub returns : goal.returns
+returns c =
+    let records : List Record = c.args.records.now in
+    let all : take c.loop-r.r-index records ≡ records =
+    take_all c.loop-r.r-index records c.loop-r-test.false in
+    let has : Lists records c.args.held.now.entries =
+    lists records c.args.held.now c.requires.held c.active_changes.ensures.ordered in
+    λ key.
+    c.loop-r.invariant key
+    ∙ ap (fold (if_undoable records key) (note_held c.args.held.now.entries key)) all
+    ∙ all_noted records c.args.held.now.entries has key

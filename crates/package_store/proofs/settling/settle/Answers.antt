@@ -5,10 +5,11 @@ use Rattle.std.specs.Str.{bytes_eq}
 use Rattle.apex_base.specs.Held.{kept}
 use Rattle.row_codec.specs.declared.batch.Row.{Row}
 use Rattle.row_map.specs.Rows.{rows_of, shown, changed}
-use Rattle.package_store.specs.Named.{note_row}
-use Rattle.package_store.specs.Settled.{settled_value, IsChange}
+use Rattle.package_store.specs.Keeping.{stays_among}
+use Rattle.package_store.specs.Named.{Note, note_row}
+use Rattle.package_store.specs.Settled.{settled_value, file_stays, IsChange}
 use Rattle.package_store.specs.Spelled.{change_to}
-use Rattle.package_store.proofs.NameNotes.{all_noted}
+use Rattle.package_store.proofs.KeptModules.{same_note}
 use Rattle.package_store.proofs.Noted.{all_made, all_change}
 use Rattle.package_store.proofs.RowNotes.{if_ok}
 use Rattle.package_store.proofs.RowSteps.{Settling, starts, row_settled, ends}
@@ -20,7 +21,7 @@ loop-key-init c =
     let gives = c.into_iter-key-iterator.ensures.into_iter_gives in
     subst (λ es. Settling records (rows_of c.args.rows.now.entries) c.in_ok-changes.changes (shown es)) (sym gives.0)
     (starts records c.args.rows.now.entries c.in_ok-changes.changes
-    (λ q. c.in_ok-changes.ensures q ∙ all_noted records q) gives.5)
+    c.in_ok-changes.ensures gives.5)
 
 pub loop-key-preserved : goal.loop-key-preserved
 loop-key-preserved c =
@@ -31,18 +32,21 @@ loop-key-preserved c =
     let rest = shown c.next.new.self in
     let s : Settling records rows old (row ∷ rest) =
     subst (λ es. Settling records rows old (shown es)) c.in-Some.ensures.steps c.loop-key.invariant in
-    let noted : (q : List ℕ) → fin.get c.settle_row.new.changes q
-    ≡ cond (bytes_eq q row.0) (note_row (kept records) row.0 row.1 (fin.get old row.0)) (fin.get old q) =
+    let stays = stays_among c.in_ok-kept.kept in
+    let seen : (q : List ℕ) → fin.get c.settle_row.new.changes q
+    ≡ cond (bytes_eq q row.0) (note_row stays row.0 row.1 (fin.get old row.0)) (fin.get old q) =
     rw (
       c.deref.ensures.value,
-      c.deref-in-loop-key.ensures.value,
       c.as_slice.ensures,
-      c.in_ok-targets.ensures,
     ) at c.in_ok-settle_row.ensures in
+    let noted : (q : List ℕ) → fin.get c.settle_row.new.changes q
+    ≡ cond (bytes_eq q row.0) (note_row (file_stays (kept records)) row.0 row.1 (fin.get old row.0)) (fin.get old q) =
+    λ q. seen q ∙ ap (λ (n : Note). cond (bytes_eq q row.0) n (fin.get old q))
+    (same_note c.in_ok-kept.kept (kept records) c.in_ok-kept.ensures row.0 row.1 (fin.get old row.0)) in
     row_settled records rows old c.settle_row.new.changes row rest s noted
 
 -- each key has its change where the loop ends
-noted : (c : goal.After-drop-targets-2) → (q : List ℕ) → fin.get c.loop-key.changes q
+noted : (c : goal.After-drop-held-2) → (q : List ℕ) → fin.get c.loop-key.changes q
     ≡ change_to (fin.get (rows_of c.args.rows.now.entries) q)
     (settled_value (rows_of c.args.rows.now.entries) c.args.records.now q)
 noted c =

@@ -2,8 +2,8 @@ use Rattle.std.proofs.Common.{◌≡◌, ◌<◌, List, length, get_or, fold, ta
 use Rattle.std.proofs.lemmas.List.Sums.{fold_more}
 use Rattle.std.specs.FinMap as fin
 use Rattle.apex_base.specs.declared.records.Part.{Part}
-use Rattle.package_store.specs.Named.{Note, note_name}
-use Rattle.package_store.proofs.naming.add_names.Goals as goal
+use Rattle.package_store.specs.Named.{Note, note_backup}
+use Rattle.package_store.proofs.naming.add_backups.Goals as goal
 
 pub loop-p-preserved : goal.loop-p-preserved
 loop-p-preserved c =
@@ -14,7 +14,7 @@ loop-p-preserved c =
     let low : i < length xs = rw is c.loop-p-test.true in
     let here : p ≡ get_or xs i p = rw is c.p-item.is in
     λ key.
-    let f : Note → Part → Note = λ noted (p : Part). note_name c.args.records.now c.args.r.now p.name key noted in
+    let f : Note → Part → Note = λ noted (p : Part). note_backup c.args.records.now c.args.r.now p.name key noted in
     let start = fin.get c.args.changes.now key in
-    c.in_ok-add_name.ensures key ∙ ap (λ (n : Note). f n p) (c.loop-p.invariant key)
+    c.in_ok-add_backup.ensures key ∙ ap (λ (n : Note). f n p) (c.loop-p.invariant key)
     ∙ ap (λ (x : Part). f (fold f start (take i xs)) x) here ∙ sym (fold_more f start xs i p low)
