@@ -1,6 +1,11 @@
+pub mod Admitted
 pub mod Batches
 pub mod Childless
+pub mod Entered
+pub mod EnteredRows
+pub mod FileBatches
 pub mod Judgements
+pub mod NewRows
 pub mod Performed
 pub mod Places
 pub mod Search

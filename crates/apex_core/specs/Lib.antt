@@ -1,3 +1,4 @@
 pub mod Core
 pub mod Judged
+pub mod Submitting
 pub mod Weights

@@ -2,12 +2,14 @@
 //! rows and tables.
 #![tactic(auto)]
 
+mod admitting;
 mod booting;
 mod ending;
 mod judged;
 mod judging;
 mod manager;
 mod rows;
+mod running;
 mod sessions;
 mod submitting;
 mod tables;

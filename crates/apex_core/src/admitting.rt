@@ -1,0 +1,88 @@
+//! Whether a submit of one module is admitted: `docs/calls.md`, "Submit". What is judged of a part beside what runs
+//! stands in `running`.
+ghost use Rattle.std.specs.Prelude.{◌≡◌, ◌∷◌, []};
+ghost use Rattle.apex_base.specs.declared.records.Record.{Record};
+ghost use Rattle.apex_base.specs.Answers.{Answers, IsFault};
+ghost use Rattle.apex_base.specs.Members.{In};
+ghost use Rattle.apex_base.specs.Sessions.{Ascend};
+ghost use Rattle.apex_world.specs.Soundness.{checked};
+ghost use Rattle.apex_world.specs.Submit.{admitted, is_caller_id, is_taken, package_of};
+ghost use Rattle.apex_world.specs.World.{World};
+ghost use Rattle.apex_core.specs.Submitting.{Show, one_part};
+
+use crate::running::part_refusal;
+use crate::sessions::session_with;
+use crate::tables::Tables;
+use apex_base::{Boxed, ModuleFault, Record, Refusal, SessionId, Why};
+use apex_manifest::ManifestWhy;
+use apex_world::{Package, SharedModule};
+use std::alloc::Global;
+
+/// The module with its name and version, or the first refusal that needs no new session.
+pub(crate) fn admit(
+    alloc: Global,
+    tables: &Tables,
+    id: SessionId,
+    part: &SharedModule,
+) -> Result<Package, Why<Refusal>>
+    requires ascend { Ascend tables.now.sessions.items }
+    requires childless { (r : Record) → In r tables.now.sessions.items → r.children ≡ [] }
+    ensures { (w : World) → Show tables.now w → Answers (one_part result) (admitted w id [] (part.now ∷ [])) }
+{
+    if !is_caller_id(id) {
+        return Err(Why::Fault(Refusal::IdRange { id }));
+    }
+    if is_taken(&tables.sessions, id) {
+        return Err(Why::Fault(Refusal::IdTaken { id }));
+    }
+    let p = packaged(alloc, part)?;
+    match part_refusal(tables.image.get(), &tables.sessions, &tables.active, &p) {
+        Some(refusal) => Err(Why::Fault(refusal)),
+        None => Ok(p),
+    }
+}
+
+/// Whether a caller may give the id: 1 to 1073741823.
+fn is_caller_id(id: SessionId) -> bool
+    ensures { result ≡ is_caller_id id }
+{
+    id.0 >= 1 && id.0 <= 1073741823
+}
+
+/// Whether a session ever had the id, where no session has children.
+#[tactic(auto, using(crate::proofs::Admitted::taken_if_found))]
+fn is_taken(sessions: &[Record], id: SessionId) -> bool
+    requires ascend { Ascend sessions.now }
+    requires childless { (r : Record) → In r sessions.now → r.children ≡ [] }
+    ensures { result ≡ is_taken sessions.now id }
+{
+    session_with(sessions, id).is_some()
+}
+
+/// The module with its name and version, where it is sound.
+fn packaged(alloc: Global, part: &SharedModule) -> Result<Package, Why<Refusal>>
+    ensures { Answers result (package_of 1 part.now (checked part.now)) }
+{
+    match part.check(alloc) {
+        Ok(manifest) => match part.share() {
+            Ok(content) => Ok(Package {
+                name: manifest.name,
+                version: manifest.version,
+                content,
+            }),
+            Err(_) => Err(Why::NoMemory),
+        },
+        Err(ManifestWhy::Fault(fault)) => Err(unsound(alloc, fault)),
+        Err(ManifestWhy::NoMemory) => Err(Why::NoMemory),
+    }
+}
+
+/// That the one part isn't sound, for this fault.
+fn unsound(alloc: Global, fault: ModuleFault) -> Why<Refusal>
+    ensures { IsFault result (Refusal.Module 1 fault) }
+{
+    match Boxed::new(alloc, fault) {
+        Ok(fault) => Why::Fault(Refusal::Module { part: 1, fault }),
+        Err(_) => Why::NoMemory,
+    }
+}

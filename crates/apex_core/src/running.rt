@@ -1,0 +1,125 @@
+//! Why a part is refused beside what runs: `docs/calls.md`, "Submit".
+ghost use Rattle.std.specs.Prelude.{◌≡◌, ◌&&◌, Some, find};
+ghost use Rattle.std.specs.Option.{option_copied};
+ghost use Rattle.std.specs.Str.{bytes_eq};
+ghost use Rattle.apex_base.specs.Held.{is_unfinished};
+ghost use Rattle.apex_base.specs.Sessions.{names};
+ghost use Rattle.apex_world.specs.Selection.{preinstalled};
+ghost use Rattle.apex_world.specs.Submit.{in_running, key_differs, overlap, active_version, downgrade, below};
+ghost use Rattle.apex_world.specs.Submit.{preinstalled_version};
+ghost use Rattle.apex_core.specs.Submitting.{part_refusal};
+
+use apex_base::{Name, Pick, Record, Refusal, Version};
+use apex_world::{Image, Package};
+
+/// Why the module of the one part of a submit is refused beside what runs.
+pub(crate) fn part_refusal(
+    image: &Image,
+    sessions: &[Record],
+    active: &[Pick],
+    p: &Package,
+) -> Option<Refusal>
+    ensures { result ≡ part_refusal (Some image.now) sessions.now active.now p.now }
+{
+    if in_running(image, &p.name).is_none() {
+        return Some(Refusal::NotPreinstalled { name: p.name });
+    }
+    if let Some(refusal) = key_differs(image, p) {
+        return Some(refusal);
+    }
+    if let Some(refusal) = overlap(sessions, p) {
+        return Some(refusal);
+    }
+    downgrade(active, image, p)
+}
+
+/// The running image's module of a name.
+fn in_running<'a>(image: &'a Image, name: &Name) -> Option<&'a Package>
+    ensures { option_copied result ≡ in_running (Some image.now) name.now }
+{
+    image
+        .modules
+        .as_slice()
+        .iter()
+        .find(|m| m.name.is_same(name))
+}
+
+fn key_differs(image: &Image, p: &Package) -> Option<Refusal>
+    ensures { result ≡ key_differs (Some image.now) p.now }
+{
+    let m = in_running(image, &p.name)?;
+    if p.content.has_key_of(&m.content) {
+        None
+    } else {
+        Some(Refusal::KeyDiffers { name: p.name })
+    }
+}
+
+fn overlap(sessions: &[Record], p: &Package) -> Option<Refusal>
+    ensures { result ≡ overlap sessions.now p.now }
+{
+    let r = overlapping(sessions, &p.name)?;
+    Some(Refusal::Overlap {
+        name: p.name,
+        id: r.id,
+    })
+}
+
+fn overlapping<'a>(sessions: &'a [Record], name: &Name) -> Option<&'a Record>
+    ensures { option_copied result ≡ find (λ r. is_unfinished r.state && names name.now r) sessions.now }
+{
+    sessions
+        .iter()
+        .find(|r| r.state.is_unfinished() && has_name(r, name))
+}
+
+/// Whether a part of the session has the name.
+fn has_name(r: &Record, name: &Name) -> bool
+    ensures { result ≡ names name.now r.now }
+{
+    r.parts.as_slice().iter().any(|p| p.name.is_same(name))
+}
+
+fn downgrade(active: &[Pick], image: &Image, p: &Package) -> Option<Refusal>
+    ensures { result ≡ downgrade active.now (Some image.now) p.now }
+{
+    match active_version(active, &p.name) {
+        Some(version) => below(p, Some(version)),
+        None => below(p, preinstalled_version(image, &p.name)),
+    }
+}
+
+fn below(p: &Package, version: Option<Version>) -> Option<Refusal>
+    ensures { result ≡ below p.now version }
+{
+    let active = version?;
+    if p.version < active {
+        Some(Refusal::Downgrade {
+            name: p.name,
+            active,
+            given: p.version,
+        })
+    } else {
+        None
+    }
+}
+
+fn active_version(active: &[Pick], name: &Name) -> Option<Version>
+    ensures { result ≡ active_version active.now name.now }
+{
+    let chosen = pick_of(active, name)?.chosen?;
+    Some(chosen.0)
+}
+
+fn pick_of<'a>(active: &'a [Pick], name: &Name) -> Option<&'a Pick>
+    ensures { option_copied result ≡ find (λ p. bytes_eq p.name name.now) active.now }
+{
+    active.iter().find(|p| p.name.is_same(name))
+}
+
+fn preinstalled_version(image: &Image, name: &Name) -> Option<Version>
+    ensures { result ≡ preinstalled_version (Some image.now) name.now }
+{
+    let m = in_running(image, name)?;
+    Some(m.version)
+}
