@@ -1,5 +1,9 @@
+pub mod Aborts
 pub mod Batches
+pub mod FileBatches
 pub mod Judgements
+pub mod Moved
 pub mod Performed
 pub mod Search
 pub mod Simple
+pub mod TakenFiles

@@ -1,2 +1,4 @@
 pub mod Core
 pub mod Judged
+pub mod Moving
+pub mod Taken

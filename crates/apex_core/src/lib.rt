@@ -4,6 +4,7 @@
 
 mod booting;
 mod ending;
+mod files;
 mod judged;
 mod judging;
 mod manager;
