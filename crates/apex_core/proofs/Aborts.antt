@@ -39,6 +39,7 @@ use Rattle.apex_core.specs.declared.judged.Judged.{Judged}
 use Rattle.apex_core.specs.declared.judged.Patch.{Patch}
 use Rattle.apex_core.specs.declared.judged.Patch.TheVariants.{Session}
 use Rattle.apex_core.specs.declared.tables.Tables.{Tables}
+use Rattle.apex_core.specs.Ending.{record_change}
 use Rattle.apex_core.specs.Core.{StandsFor}
 use Rattle.apex_core.specs.Judged.{IsJudged, patched, clock_after, units_after}
 use Rattle.apex_core.specs.Moving.{Moves}
@@ -46,7 +47,7 @@ use Rattle.apex_core.specs.Taken.{files_taken, first_of}
 use Rattle.apex_core.proofs.Batches.{IsRowOf}
 use Rattle.apex_core.proofs.FileBatches.{of_module, files_lead}
 use Rattle.apex_core.proofs.TakenFiles.{IsBelowFiles}
-use Rattle.apex_core.proofs.Moved.{record_change, no_record, one_target, one_part, is_found, is_among, record_is, its_id, session_is, step_is, runs_on, moved_is}
+use Rattle.apex_core.proofs.Moved.{no_record, one_target, one_part, is_found, is_among, record_is, its_id, session_is, step_is, runs_on, moved_is}
 
 abbrev pub own_target : Record → Target
 own_target r = first_of (λ p. p.target) r.parts
@@ -67,7 +68,7 @@ target_is : (ps : List Part) → ((p : Part) → In p ps → IsPart p) → IsTar
 target_is [] all = tt
 target_is (p ∷ ps) all = (all p (inl refl)).target
 
-numbered : (t : Target) → IsTarget t → HasPartNumber t
+pub numbered : (t : Target) → IsTarget t → HasPartNumber t
 numbered targets.Preinstalled i = tt
 numbered (targets.Module session part version) i = i.1
 
@@ -103,7 +104,7 @@ module _ (kept : RowMap) (tables : Tables) (w : World) (s : StandsFor kept table
   its_kind = (s.simple.plain.sessions m.session among).kind
 
   one_own : (session : SessionId) (part : ℕ) → has_target m.session session part ≡ is_module session part (own_target m.session)
-  one_own = one_target (λ p. p.target) m.session.parts (one_part kept tables w s m.session among)
+  one_own = one_target (λ p. p.target) m.session.parts (one_part w s.running.lawful s.simple m.session among)
 
   module _ (session : Record) (same : session ≡ record m.session { state = next; rollback = m.session.rollback }) where
     abbrev after : World

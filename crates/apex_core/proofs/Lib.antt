@@ -1,9 +1,12 @@
 pub mod Aborts
 pub mod Batches
+pub mod BeforeGoes
 pub mod FileBatches
+pub mod GivenUp
 pub mod Judgements
 pub mod Moved
 pub mod Performed
 pub mod Search
 pub mod Simple
+pub mod Successes
 pub mod TakenFiles

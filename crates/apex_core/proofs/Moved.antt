@@ -1,5 +1,5 @@
 -- Calls that move one session of a simple world. Callers want `refused_is`, `moved_is`, `is_found`, `record_is`,
--- `no_record`, `read_is`, `moved_from`, `has_room_moved` and `one_target`.
+-- `no_record`, `read_is`, `moved_from`, `has_room_moved`, `one_target` and `one_part`.
 use Rattle.std.proofs.Common.{◌≡◌, ◌≤◌, ℕ, Bool, true, false, eqb, eqb-true, List, [], ◌∷◌, map, length, slice_set, get_or, Option, Some, None, sym, ap, subst, ◌∙◌, refl, inl, inr, arith, ◌||◌}
 use Rattle.std.proofs.lemmas.Bool.{false≢true}
 use Rattle.std.proofs.lemmas.Option.{slice_get_read}
@@ -16,7 +16,7 @@ use Rattle.apex_base.specs.Keys.{RecordOf, RowMap, key_text}
 use Rattle.apex_base.specs.Members.{In}
 use Rattle.apex_base.specs.Moves.{rollback_after}
 use Rattle.apex_base.specs.Sessions.{session_of, with_session}
-use Rattle.apex_base.specs.Spelling.{IsRecord, record_text}
+use Rattle.apex_base.specs.Spelling.{IsRecord}
 use Rattle.apex_base.proofs.SessionLemmas.{of_found}
 use Rattle.row_codec.specs.declared.batch.Row.{Row}
 use Rattle.row_map.specs.Rows.{changed}
@@ -27,6 +27,7 @@ use Rattle.apex_world.specs.declared.calls.Call.{Call}
 use Rattle.apex_world.specs.declared.calls.Reply.TheVariants as reply
 use Rattle.apex_world.specs.Advance.{move_to, move_found, move_session}
 use Rattle.apex_world.specs.Invariance.{IsCall}
+use Rattle.apex_world.specs.Lawful.{Lawful}
 use Rattle.apex_world.specs.Limits.{units}
 use Rattle.apex_world.specs.Rows.{rows}
 use Rattle.apex_world.specs.Running.{Running}
@@ -38,6 +39,7 @@ use Rattle.apex_world.proofs.WorldRows.{same_id}
 use Rattle.apex_core.specs.declared.judged.Judged.{Judged}
 use Rattle.apex_core.specs.declared.judged.Patch.TheVariants.{Nothing}
 use Rattle.apex_core.specs.declared.tables.Tables.{Tables}
+use Rattle.apex_core.specs.Ending.{record_change}
 use Rattle.apex_core.specs.Core.{IsSimple, StandsFor}
 use Rattle.apex_core.specs.Judged.{IsJudged, RunsOn, patched, clock_after, units_after}
 use Rattle.apex_core.specs.Moving.{Moves}
@@ -46,9 +48,6 @@ use Rattle.apex_core.proofs.Judgements.{found_in, is_record, quiet_is, room_in}
 use Rattle.apex_core.proofs.Simple.{move_simple, move_units}
 
 -- The row of a record
-
-abbrev pub record_change : Record → Row
-record_change r = record { key = key_text (RecordOf r.id); value = Some (record_text r) }
 
 no_record_if : (r : Record) (j : SessionId) (c : Bool) (rest : List Row) → eqb j.0 r.id.0 ≡ c
     → in_batch (key_text (RecordOf j)) (record_change r ∷ rest) ≡ false → c ≡ false
@@ -83,7 +82,7 @@ moved_from r s session b e same = same ∙ ap (λ (x : Record). record x { state
 
 -- One part
 
-or_false : (b : Bool) → (b || false) ≡ b
+pub or_false : (b : Bool) → (b || false) ≡ b
 or_false true = refl
 or_false false = refl
 
@@ -97,14 +96,14 @@ one_target target (p ∷ q ∷ ps) low session part = absurd (omega (arith, low)
 few_if : {X Y : Type 0} (xs : List X) (ys : List Y) → xs ≡ [] → length xs ≡ length ys → length ys ≤ 1
 few_if xs ys e same = omega (arith, ap (λ zs. length zs) e, same)
 
-module _ (kept : RowMap) (tables : Tables) (w : World) (s : StandsFor kept tables w) where
-  -- a session without children has one part at most
-  pub one_part : (r : Record) → In r w.sessions → length r.parts ≤ 1
-  one_part r i = elim (s.running.lawful.parts r i).count [
-    | inl both ↦ omega (arith, both.1)
-    | inr same ↦ few_if r.children r.parts (s.simple.childless r i) same
-  ]
+-- a session without children has one part at most
+pub one_part : (w : World) → Lawful w → IsSimple w → (r : Record) → In r w.sessions → length r.parts ≤ 1
+one_part w law simple r i = elim (law.parts r i).count [
+  | inl both ↦ omega (arith, both.1)
+  | inr same ↦ few_if r.children r.parts (simple.childless r i) same
+]
 
+module _ (kept : RowMap) (tables : Tables) (w : World) (s : StandsFor kept tables w) where
   module _ (call : Call) (clock : ℕ) (id : SessionId) (by : Move) (call_is : step w call ≡ move_session w clock id by) where
     -- a call that is refused
     pub refused_is : (judged : Judged) (why : Refusal)
@@ -157,6 +156,9 @@ module _ (kept : RowMap) (tables : Tables) (w : World) (s : StandsFor kept table
 
         pub runs_on : IsCall call → Running after
         runs_on is = subst (λ (y : Stepped). Running y.world) step_is (calls_run w s.running call is)
+
+        pub stays_simple : IsSimple after
+        stays_simple = subst (λ (y : Stepped). IsSimple y.world) (sym call_is ∙ step_is) (move_simple w s.simple clock id by)
 
         -- a call that moves a session
         pub moved_is : (judged : Judged) → IsCall call → judged.reply ≡ reply.Done

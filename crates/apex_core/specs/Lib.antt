@@ -1,4 +1,5 @@
 pub mod Core
+pub mod Ending
 pub mod Judged
 pub mod Moving
 pub mod Taken

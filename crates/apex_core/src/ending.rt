@@ -1,5 +1,8 @@
 //! How a session ends by a call: abort and success, `docs/calls.md`.
-ghost use Rattle.std.specs.Prelude.{◌≡◌, ℕ, IfOk, IfErr};
+ghost use Rattle.std.specs.Prelude.{◌≡◌, ℕ, max, IfOk, IfErr};
+ghost use Rattle.apex_base.specs.Keys.{BackupOf, key_text};
+ghost use Rattle.apex_base.specs.Ranges.{IsMillis};
+ghost use Rattle.session_record.specs.Room.{HasPartNumber, HasRoom};
 ghost use Rattle.row_codec.specs.Batch.{keys_of};
 ghost use Rattle.std.specs.Cmp.Lexicographic.{slice_cmp};
 ghost use Rattle.std.specs.Ordering.{nat_cmp};
@@ -9,6 +12,7 @@ ghost use Rattle.apex_world.specs.Advance.{move_session};
 ghost use Rattle.apex_world.specs.Stepped.{refused};
 ghost use Rattle.apex_world.specs.World.{World};
 ghost use Rattle.apex_core.specs.Core.{StandsFor};
+ghost use Rattle.apex_core.specs.Ending.{held_before, success_batch};
 ghost use Rattle.apex_core.specs.Judged.{IsJudged, IsPlaced};
 ghost use Rattle.apex_core.specs.Moving.{Moves};
 ghost use Rattle.apex_core.specs.Taken.{first_of};
@@ -18,8 +22,12 @@ use crate::judged::{Judged, Patch};
 use crate::rows::{record_rows, session_in};
 use crate::sessions::place_of;
 use crate::tables::Tables;
-use apex_base::{Millis, Move, Part, Refusal, SessionId, State, Target, moved};
+use apex_base::{
+    Bytes, Listed, Millis, Move, Name, Part, Record, Refusal, SessionId, State, Target, before,
+    moved,
+};
 use apex_world::Reply;
+use row_codec::Row;
 use row_map::Rows;
 use std::alloc::{AllocError, Global};
 
@@ -63,11 +71,66 @@ pub(crate) fn judge_success(
     ensures placed { IfOk result (λ j. IsPlaced j.patch tables.now.sessions.items) }
     ensures ascending { IfOk result (λ j. IsStrictlySortedBy (slice_cmp nat_cmp) (keys_of j.rows.items)) }
 {
-    let _ = Judged::quiet(alloc, apex_world::Reply::Done);
-    let _ = rows.len();
-    let _ = tables.clock;
-    let _ = (time, id);
-    Err(AllocError)
+    let (place, next) = match moving(tables, id, Move::Success) {
+        Ok(to) => to,
+        Err(why) => return Ok(Judged::quiet(alloc, Reply::Refused(why))),
+    };
+    let clock = later_of(tables.clock, time);
+    let r = &tables.sessions[place];
+    let session = session_in(alloc, r, next, r.rollback)?;
+    let batch = if r.state.is_success() {
+        Vec::new(alloc)
+    } else {
+        success_rows(alloc, rows, &tables.sessions, &session)?
+    };
+    Ok(Judged {
+        reply: Reply::Done,
+        rows: batch,
+        patch: Patch::Success {
+            place,
+            session,
+            clock,
+        },
+    })
+}
+
+/// What changes where a session succeeds: its record, the row of what its name held before, and the files of that.
+fn success_rows(
+    alloc: Global,
+    rows: &Rows,
+    sessions: &[Record],
+    session: &Record,
+) -> Result<Vec<Row>, AllocError>
+    requires room { HasRoom session.now }
+    requires numbered { HasPartNumber (held_before sessions.now session.now) }
+    ensures rows { IfOk result (λ batch. batch.items ≡ success_batch rows.now sessions.now session.now) }
+{
+    let mut batch = record_rows(alloc, session)?;
+    let [p, ..] = session.parts.as_slice() else {
+        return Ok(batch);
+    };
+    let key = backup_key(alloc, &p.name)?;
+    batch.push(Row { key, value: None })?;
+    take_files(alloc, rows, before(sessions, session, &p.name), &mut batch)?;
+    Ok(batch)
+}
+
+/// The key of the row of what a name held before.
+fn backup_key(alloc: Global, name: &Name) -> Result<Bytes, AllocError>
+    ensures { IfOk result (λ key. key ≡ key_text (BackupOf name.now)) }
+{
+    let mut bytes = Vec::with_capacity(alloc, 1)?;
+    bytes.push(4u8)?;
+    bytes.extend_from_slice(name.as_bytes())?;
+    Ok(Listed::of(bytes))
+}
+
+/// The later one of two moments.
+fn later_of(a: Millis, b: Millis) -> Millis
+    ensures later { result ≡ max a b }
+    ensures range { IsMillis result }
+{
+    if a.number() < b.number() { b } else { a }
 }
 
 /// The place of the session that a call moves, and the state that it leads to.

@@ -7,10 +7,11 @@ use Rattle.apex_base.specs.declared.records.Part.{Part}
 use Rattle.row_codec.specs.Batch.{keys_of}
 use Rattle.session_record.specs.Room.{HasPartNumber}
 use Rattle.apex_world.specs.declared.calls.Call.TheVariants as calls
+use Rattle.apex_core.specs.Ending.{record_change}
 use Rattle.apex_core.specs.Taken.{files_taken, first_of}
 use Rattle.apex_core.proofs.Aborts.{abort_done, abort_numbered, own_target, record_below}
 use Rattle.apex_core.proofs.Batches.{one_ascends}
-use Rattle.apex_core.proofs.Moved.{record_change, read_is, moved_from, refused_is, has_room_moved}
+use Rattle.apex_core.proofs.Moved.{read_is, moved_from, refused_is, has_room_moved}
 use Rattle.apex_core.proofs.TakenFiles.{all_ascend}
 use Rattle.apex_core.proofs.ending.judge_abort.Goals as goal
 
