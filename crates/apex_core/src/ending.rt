@@ -1,17 +1,34 @@
 //! How a session ends by a call: abort and success, `docs/calls.md`.
-ghost use Rattle.std.specs.Prelude.{◌≡◌, IfOk};
+ghost use Rattle.std.specs.Prelude.{◌≡◌, ℕ, max, IfOk, IfErr};
+ghost use Rattle.apex_base.specs.Keys.{BackupOf, key_text};
+ghost use Rattle.apex_base.specs.Sessions.{Ascend};
+ghost use Rattle.apex_base.specs.Ranges.{IsMillis};
+ghost use Rattle.session_record.specs.Room.{HasPartNumber, HasRoom};
 ghost use Rattle.row_codec.specs.Batch.{keys_of};
 ghost use Rattle.std.specs.Cmp.Lexicographic.{slice_cmp};
 ghost use Rattle.std.specs.Ordering.{nat_cmp};
 ghost use Rattle.std.specs.List.Sorted.{IsStrictlySortedBy};
 ghost use Rattle.apex_world.specs.declared.calls.Call.TheVariants as calls;
+ghost use Rattle.apex_world.specs.Advance.{move_session};
+ghost use Rattle.apex_world.specs.Stepped.{refused};
 ghost use Rattle.apex_world.specs.World.{World};
 ghost use Rattle.apex_core.specs.Core.{StandsFor};
+ghost use Rattle.apex_core.specs.Ending.{held_before, success_batch};
 ghost use Rattle.apex_core.specs.Judged.{IsJudged, IsPlaced};
+ghost use Rattle.apex_core.specs.Moving.{Moves};
+ghost use Rattle.apex_core.specs.Taken.{first_of};
 
-use crate::judged::Judged;
+use crate::files::take_files;
+use crate::judged::{Judged, Patch};
+use crate::rows::{record_rows, session_in};
+use crate::sessions::place_of;
 use crate::tables::Tables;
-use apex_base::{Millis, SessionId};
+use apex_base::{
+    Bytes, Listed, Millis, Move, Name, Part, Record, Refusal, SessionId, State, Target, before,
+    moved,
+};
+use apex_world::Reply;
+use row_codec::Row;
 use row_map::Rows;
 use std::alloc::{AllocError, Global};
 
@@ -27,11 +44,19 @@ pub(crate) fn judge_abort(
     ensures placed { IfOk result (λ j. IsPlaced j.patch tables.now.sessions.items) }
     ensures ascending { IfOk result (λ j. IsStrictlySortedBy (slice_cmp nat_cmp) (keys_of j.rows.items)) }
 {
-    let _ = Judged::quiet(alloc, apex_world::Reply::Done);
-    let _ = rows.len();
-    let _ = tables.clock;
-    let _ = id;
-    Err(AllocError)
+    let (place, next) = match moving(tables, id, Move::Abort) {
+        Ok(to) => to,
+        Err(why) => return Ok(Judged::quiet(alloc, Reply::Refused(why))),
+    };
+    let r = &tables.sessions[place];
+    let session = session_in(alloc, r, next, r.rollback)?;
+    let mut batch = record_rows(alloc, &session)?;
+    take_files(alloc, rows, first_target(r.parts.as_slice()), &mut batch)?;
+    Ok(Judged {
+        reply: Reply::Done,
+        rows: batch,
+        patch: Patch::Session { place, session },
+    })
 }
 
 /// Success: the session's record changes where it was ACTIVATED, and what its names held before goes.
@@ -47,9 +72,89 @@ pub(crate) fn judge_success(
     ensures placed { IfOk result (λ j. IsPlaced j.patch tables.now.sessions.items) }
     ensures ascending { IfOk result (λ j. IsStrictlySortedBy (slice_cmp nat_cmp) (keys_of j.rows.items)) }
 {
-    let _ = Judged::quiet(alloc, apex_world::Reply::Done);
-    let _ = rows.len();
-    let _ = tables.clock;
-    let _ = (time, id);
-    Err(AllocError)
+    let (place, next) = match moving(tables, id, Move::Success) {
+        Ok(to) => to,
+        Err(why) => return Ok(Judged::quiet(alloc, Reply::Refused(why))),
+    };
+    let clock = later_of(tables.clock, time);
+    let r = &tables.sessions[place];
+    let session = session_in(alloc, r, next, r.rollback)?;
+    let batch = if r.state.is_success() {
+        Vec::new(alloc)
+    } else {
+        success_rows(alloc, rows, &tables.sessions, &session)?
+    };
+    Ok(Judged {
+        reply: Reply::Done,
+        rows: batch,
+        patch: Patch::Success {
+            place,
+            session,
+            clock,
+        },
+    })
+}
+
+/// What changes where a session succeeds: its record, the row of what its name held before, and the files of that.
+fn success_rows(
+    alloc: Global,
+    rows: &Rows,
+    sessions: &[Record],
+    session: &Record,
+) -> Result<Vec<Row>, AllocError>
+    requires room { HasRoom session.now }
+    requires numbered { HasPartNumber (held_before sessions.now session.now) }
+    ensures rows { IfOk result (λ batch. batch.items ≡ success_batch rows.now sessions.now session.now) }
+{
+    let mut batch = record_rows(alloc, session)?;
+    let [p, ..] = session.parts.as_slice() else {
+        return Ok(batch);
+    };
+    let key = backup_key(alloc, &p.name)?;
+    batch.push(Row { key, value: None })?;
+    take_files(alloc, rows, before(sessions, session, &p.name), &mut batch)?;
+    Ok(batch)
+}
+
+/// The key of the row of what a name held before.
+fn backup_key(alloc: Global, name: &Name) -> Result<Bytes, AllocError>
+    ensures { IfOk result (λ key. key ≡ key_text (BackupOf name.now)) }
+{
+    let mut bytes = Vec::with_capacity(alloc, 1)?;
+    bytes.push(4u8)?;
+    bytes.extend_from_slice(name.as_bytes())?;
+    Ok(Listed::of(bytes))
+}
+
+/// The later one of two moments.
+fn later_of(a: Millis, b: Millis) -> Millis
+    ensures later { result ≡ max a b }
+    ensures range { IsMillis result }
+{
+    if a.number() < b.number() { b } else { a }
+}
+
+/// The place of the session that a call moves, and the state that it leads to.
+fn moving(tables: &Tables, id: SessionId, by: Move) -> Result<(usize, State), Refusal>
+    requires { Ascend tables.now.sessions.items }
+    ensures moves { IfOk result (λ to. Moves tables.now.sessions.items id by to.0 to.1) }
+    ensures refused { IfErr result (λ why. (w : World) (clock : ℕ) → tables.now.sessions.items ≡ w.sessions
+        → move_session w clock id by ≡ refused w why) }
+{
+    let Ok(place) = place_of(&tables.sessions, id) else {
+        return Err(Refusal::NoSession { id });
+    };
+    let state = tables.sessions[place].state;
+    let next = moved(state, by).ok_or(Refusal::BadState { state })?;
+    Ok((place, next))
+}
+
+/// The target of the first part. A session without children has no other.
+fn first_target(parts: &[Part]) -> Target
+    ensures { result ≡ first_of (λ p. p.target) parts.now }
+{
+    match parts {
+        [p, ..] => p.target,
+        [] => Target::Preinstalled,
+    }
 }

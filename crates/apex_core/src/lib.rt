@@ -5,6 +5,7 @@
 mod admitting;
 mod booting;
 mod ending;
+mod files;
 mod judged;
 mod judging;
 mod manager;

@@ -1,0 +1,322 @@
+-- What a success of a simple world judges. Callers want `success_again`, `success_done`, `success_ascends`,
+-- `success_room`, `held_numbered` and `time_is`.
+use Rattle.std.proofs.Common.{◌≡◌, ◌≤◌, ℕ, Bool, true, false, cond, eqb, eq-eqb, List, [], ◌∷◌, ◌++◌, length, max, Option, Some, None, sym, ap, subst, ◌∙◌, refl, inl, inr, arith}
+use Rattle.std.specs.Prelude.{not}
+use Rattle.std.specs.Cmp.Lexicographic.{slice_cmp}
+use Rattle.std.specs.List.Sorted.{IsStrictlySortedBy}
+use Rattle.std.specs.Ordering.{nat_cmp}
+use Rattle.std.proofs.Math.Nat.{le-max_right}
+use Rattle.std.proofs.lemmas.Bool.{false≢true}
+use Rattle.apex_base.specs.declared.moves.Move.TheVariants as step_of
+use Rattle.apex_base.specs.declared.numbers.SessionId.{SessionId}
+use Rattle.apex_base.specs.declared.records.Part.{Part}
+use Rattle.apex_base.specs.declared.records.Record.{Record}
+use Rattle.apex_base.specs.declared.records.RollbackState.{RollbackState}
+use Rattle.apex_base.specs.declared.records.RollbackState.TheVariants.{Available}
+use Rattle.apex_base.specs.declared.records.State.{State}
+use Rattle.apex_base.specs.declared.records.State.TheVariants as state
+use Rattle.apex_base.specs.Held.{is_success, is_module, is_target, kept}
+use Rattle.apex_base.specs.Keys.{Key, Boots, RecordOf, ActiveOf, BackupOf, FileOf, DataOf, SnapshotOf, PreRestoreOf, WatchOf, IsKey, RowMap, key_text}
+use Rattle.apex_base.specs.Members.{In}
+use Rattle.apex_base.specs.Moves.{moved}
+use Rattle.apex_base.specs.Ranges.{IsMillis}
+use Rattle.apex_base.specs.Rollbacks.{is_enabling}
+use Rattle.apex_base.specs.Sessions.{names, session_of, with_session}
+use Rattle.apex_base.specs.Spelling.{IsTarget, record_text}
+use Rattle.apex_base.proofs.SessionLemmas.{of_found, with_found, with_self}
+use Rattle.row_codec.specs.declared.batch.Row.{Row}
+use Rattle.row_codec.specs.Batch.{keys_of}
+use Rattle.row_map.specs.Rows.{changed}
+use Rattle.row_map.specs.Room.{in_batch}
+use Rattle.session_record.specs.Room.{HasPartNumber, HasRoom}
+use Rattle.apex_world.specs.declared.calls.Call.TheVariants as calls
+use Rattle.apex_world.specs.declared.calls.Reply.TheVariants as reply
+use Rattle.apex_world.specs.Advance.{move_session, after_success, success_to, success_found}
+use Rattle.apex_world.specs.Lawful.{Lawful}
+use Rattle.apex_world.specs.Limits.{units}
+use Rattle.apex_world.specs.Rows.{rows, row_at}
+use Rattle.apex_world.specs.RowsMoved.{success_row, freed}
+use Rattle.apex_world.specs.Step.{step}
+use Rattle.apex_world.specs.Stepped.{Stepped, done}
+use Rattle.apex_world.specs.World.{World}
+use Rattle.apex_world.proofs.KeptLemmas.{names_own}
+use Rattle.apex_world.proofs.PlainLemmas.{success_plain}
+use Rattle.apex_world.proofs.SuccessRows.{success_rows}
+use Rattle.apex_core.specs.declared.judged.Judged.{Judged}
+use Rattle.apex_core.specs.declared.judged.Patch.{Patch}
+use Rattle.apex_core.specs.declared.judged.Patch.TheVariants.{Success}
+use Rattle.apex_core.specs.declared.tables.Tables.{Tables}
+use Rattle.apex_core.specs.Core.{IsSimple, StandsFor}
+use Rattle.apex_core.specs.Ending.{record_change, held_before, backups_taken, success_batch}
+use Rattle.apex_core.specs.Judged.{IsJudged, patched, clock_after, units_after}
+use Rattle.apex_core.specs.Moving.{Moves}
+use Rattle.apex_core.specs.Taken.{files_taken}
+use Rattle.apex_core.proofs.Aborts.{numbered}
+use Rattle.apex_core.proofs.Batches.{IsRowOf, batch_leads}
+use Rattle.apex_core.proofs.BeforeGoes.{before_goes}
+use Rattle.apex_core.proofs.GivenUp.{held_target_of, held_by, backup_there, none_outdated, no_restore, gives}
+use Rattle.apex_core.proofs.TakenBatches.{of_module, files_lead}
+use Rattle.apex_core.proofs.TakenFiles.{IsBelowFiles, all_ascend, not_second}
+use Rattle.apex_core.proofs.Moved.{no_record, one_part, is_found, its_id, step_is, runs_on, stays_simple, moved_is, has_room_moved}
+
+-- a session that can be marked successful is ACTIVATED, or SUCCESS already
+success_state : (a b : State) → moved a step_of.Success ≡ Some b → b ≡ state.Success
+success_state state.Verified b e = absurd (cc)
+success_state state.Staged b e = absurd (cc)
+success_state state.Activated b e = cc
+success_state state.ActivationFailed b e = absurd (cc)
+success_state state.Success b e = cc
+success_state state.RevertInProgress b e = absurd (cc)
+success_state state.Reverted b e = absurd (cc)
+success_state state.Aborted b e = absurd (cc)
+
+activated_state : (a b : State) → moved a step_of.Success ≡ Some b → is_success a ≡ false → a ≡ state.Activated
+activated_state state.Verified b e f = absurd (cc)
+activated_state state.Staged b e f = absurd (cc)
+activated_state state.Activated b e f = refl
+activated_state state.ActivationFailed b e f = absurd (cc)
+activated_state state.Success b e f = absurd (cc)
+activated_state state.RevertInProgress b e f = absurd (cc)
+activated_state state.Reverted b e f = absurd (cc)
+activated_state state.Aborted b e f = absurd (cc)
+
+is_success_state : (a : State) → is_success a ≡ true → a ≡ state.Success
+is_success_state state.Verified e = absurd (cc)
+is_success_state state.Staged e = absurd (cc)
+is_success_state state.Activated e = absurd (cc)
+is_success_state state.ActivationFailed e = absurd (cc)
+is_success_state state.Success e = refl
+is_success_state state.RevertInProgress e = absurd (cc)
+is_success_state state.Reverted e = absurd (cc)
+is_success_state state.Aborted e = absurd (cc)
+
+-- a moment that is at most another is one
+pub time_is : (a b clock : ℕ) → clock ≡ max a b → IsMillis clock → IsMillis b
+time_is a b clock e is = omega (arith, le-max_right a b, e, is)
+
+-- The batch ascends
+
+head_ascends : (r : Record) (ps : List Part)
+    → IsStrictlySortedBy (slice_cmp nat_cmp) (keys_of (record_change r ∷ backups_taken ps))
+unfolding IsStrictlySortedBy
+head_ascends r [] = (tt, tt)
+head_ascends r (p ∷ ps) = ((refl, tt), (tt, tt))
+
+head_below : (r : Record) (ps : List Part) (row : Row) → In row (record_change r ∷ backups_taken ps)
+    → IsBelowFiles row.key
+head_below r ps row (inl e) rest = ap (λ (x : Row). slice_cmp nat_cmp x.key (5 ∷ rest)) (sym e)
+head_below r [] row (inr i) rest = absurd i
+head_below r (p ∷ ps) row (inr (inl e)) rest = ap (λ (x : Row). slice_cmp nat_cmp x.key (5 ∷ rest)) (sym e)
+head_below r (p ∷ ps) row (inr (inr i)) rest = absurd i
+
+pub success_ascends : (m : RowMap) (sessions : List Record) (r : Record)
+    → IsStrictlySortedBy (slice_cmp nat_cmp) (keys_of (success_batch m sessions r))
+success_ascends m sessions r =
+    all_ascend m (held_before sessions r) (record_change r ∷ backups_taken r.parts) (head_ascends r r.parts)
+    (head_below r r.parts)
+
+-- The rows of another clock
+
+other_clock : (w : World) (clock : ℕ) (k : Key) → row_at (record w { clock = clock }) k ≡ row_at w k
+other_clock w clock Boots = refl
+other_clock w clock (RecordOf id) = refl
+other_clock w clock (ActiveOf name) = refl
+other_clock w clock (BackupOf name) = refl
+other_clock w clock (FileOf id part path) = refl
+other_clock w clock (DataOf name key) = refl
+other_clock w clock (SnapshotOf id name key) = refl
+other_clock w clock (PreRestoreOf id name key) = refl
+other_clock w clock (WatchOf observer name) = refl
+
+cond_none : (b : Bool) (o : Option (List ℕ)) → o ≡ None → cond b None o ≡ o
+cond_none true o e = sym e
+cond_none false o e = refl
+
+module _ (kept_rows : RowMap) (tables : Tables) (w : World) (s : StandsFor kept_rows tables w) (time : ℕ)
+    (is_time : IsMillis time) (id : SessionId) (place : ℕ) (next : State)
+    (m : Moves tables.sessions.items id step_of.Success place next) where
+  call_is : step w (calls.Success time id) ≡ move_session w (max w.clock time) id step_of.Success
+  call_is = success_plain w s.simple.plain time id
+
+  law : Lawful w
+  law = s.running.lawful
+
+  found_it : session_of w.sessions id ≡ Some m.session
+  found_it = is_found kept_rows tables w s (calls.Success time id) (max w.clock time) id step_of.Success call_is place next m
+
+  among : In m.session w.sessions
+  among = (of_found w.sessions id m.session found_it).0
+
+  low : length m.session.parts ≤ 1
+  low = one_part w law s.simple m.session among
+
+  held_is : IsTarget (held_before w.sessions m.session)
+  held_is = held_target_of w law m.session m.session.parts
+
+  module _ (session : Record) (same : session ≡ record m.session { state = next; rollback = m.session.rollback }) where
+    pub success_room : HasRoom session
+    success_room = has_room_moved kept_rows tables w s (calls.Success time id) (max w.clock time) id step_of.Success
+        call_is place next m session same
+
+    pub held_numbered : HasPartNumber (held_before tables.sessions.items session)
+    held_numbered =
+        subst (λ (ss : List Record). HasPartNumber (held_before ss session)) (sym s.sessions)
+        (subst (λ (x : Record). HasPartNumber (held_before w.sessions x)) (sym same)
+        (numbered (held_before w.sessions m.session) held_is))
+
+    abbrev after : World
+    after = record w { sessions = with_session session w.sessions; clock = max w.clock time }
+
+    called : step w (calls.Success time id) ≡ done after
+    called = step_is kept_rows tables w s (calls.Success time id) (max w.clock time) id step_of.Success call_is place next
+        m refl session same
+
+    later : Lawful after
+    later = (runs_on kept_rows tables w s (calls.Success time id) (max w.clock time) id step_of.Success call_is place next
+        m refl session same is_time).lawful
+
+    still : IsSimple after
+    still = stays_simple kept_rows tables w s (calls.Success time id) (max w.clock time) id step_of.Success call_is place
+        next m refl session same
+
+    id_is : session.id ≡ m.session.id
+    id_is = its_id kept_rows tables w s (calls.Success time id) (max w.clock time) id step_of.Success call_is place next m
+        refl session same
+
+    judged_is : (judged : Judged) (clock : ℕ) → judged.reply ≡ reply.Done
+        → changed (rows w) judged.rows.items ≡ rows after → judged.patch ≡ Success place session clock
+        → clock ≡ max tables.clock time → IsJudged judged kept_rows w (calls.Success time id)
+    judged_is judged clock says leads patch later_one =
+        moved_is kept_rows tables w s (calls.Success time id) (max w.clock time) id step_of.Success call_is place next m refl
+        session same judged is_time says leads
+        (ap (λ (p : Patch). patched p w.sessions) patch)
+        (ap (λ (p : Patch). clock_after p w.clock) patch ∙ later_one ∙ ap (λ n. max n time) s.clock)
+        (ap (λ (p : Patch). units_after p (units w)) patch)
+
+    -- a success of a session that is SUCCESS already
+    again : is_success m.session.state ≡ true → after ≡ record w { clock = max w.clock time }
+    again e =
+        let own : next ≡ m.session.state =
+        success_state m.session.state next m.goes ∙ sym (is_success_state m.session.state e) in
+        let one : session ≡ m.session =
+        same ∙ ap (λ (b : State). record m.session { state = b; rollback = m.session.rollback }) own in
+        ap (λ (ss : List Record). record w { sessions = ss; clock = max w.clock time })
+        (ap (λ (x : Record). with_session x w.sessions) one ∙ with_found w.sessions id m.session found_it)
+
+    pub success_again : (judged : Judged) (clock : ℕ) → is_success m.session.state ≡ true → judged.reply ≡ reply.Done
+        → judged.rows.items ≡ [] → judged.patch ≡ Success place session clock → clock ≡ max tables.clock time
+        → IsJudged judged kept_rows w (calls.Success time id)
+    success_again judged clock e says none patch later_one =
+        judged_is judged clock says (ap (changed (rows w)) none ∙ batch_leads w after law later [] (λ row i. absurd i)
+        (λ k is out. ap (λ (v : World). row_at v k) (again e) ∙ other_clock w (max w.clock time) k)) patch later_one
+
+    module _ (before_it : is_success m.session.state ≡ false) where
+      active : m.session.state ≡ state.Activated
+      active = activated_state m.session.state next m.goes before_it
+
+      succeeded : session ≡ record m.session { state = state.Success }
+      succeeded =
+          same ∙ ap (λ (b : State). record m.session { state = b; rollback = m.session.rollback })
+          (success_state m.session.state next m.goes)
+
+      at_key : (k : Key) → row_at after k ≡ success_row w (max w.clock time) m.session k
+      at_key k = ap (λ (y : Stepped). row_at y.world k) (sym called)
+          ∙ success_rows w law time id m.session found_it active k
+
+      sessions_are : after_success (max w.clock time) m.session w.sessions ≡ with_session session w.sessions
+      sessions_are =
+          sym (ap (λ (y : Stepped). y.world.sessions) (ap (success_found w (max w.clock time) id) found_it
+          ∙ ap (success_to w (max w.clock time) m.session) m.goes)
+          ∙ ap (λ b. cond b w.sessions (after_success (max w.clock time) m.session w.sessions)) before_it)
+          ∙ ap (λ (y : Stepped). y.world.sessions) called
+
+      -- the files of what its name held before go
+      goes : (sid : SessionId) (part : ℕ) (path : List ℕ) → is_module sid part (held_before w.sessions m.session) ≡ true
+          → row_at after (FileOf sid part path) ≡ None
+      goes sid part path e =
+          let (p, i, has) = held_by w.sessions m.session m.session.parts sid part e in
+          let no_more : is_target (kept (with_session session w.sessions)) sid part ≡ false =
+          before_goes w after law later still m.session session among active succeeded refl p.name
+          (names_own m.session p i) sid part has in
+          at_key (FileOf sid part path)
+          ∙ ap (λ b. freed b (after_success (max w.clock time) m.session w.sessions) sid part (row_at w (FileOf sid part path)))
+          (gives w s.simple m.session low sid part ∙ e)
+          ∙ ap (λ b. cond (not b) None (row_at w (FileOf sid part path)))
+          (ap (λ ss. is_target (kept ss) sid part) sessions_are ∙ no_more)
+
+      abbrev head : List Row
+      head = record_change session ∷ backups_taken m.session.parts
+
+      backup_if : (name : List ℕ) (b : Bool) → names name m.session ≡ b
+          → in_batch (key_text (BackupOf name)) head ≡ false
+          → cond b None (row_at w (BackupOf name)) ≡ row_at w (BackupOf name)
+      backup_if name true e none =
+          absurd (false≢true (sym (not_second (key_text (BackupOf name)) (record_change session ∷ [])
+          (backups_taken m.session.parts) none) ∙ backup_there name m.session.parts low e))
+      backup_if name false e none = refl
+
+      other : (k : Key) → IsKey k → in_batch (key_text k) head ≡ false
+          → of_module (held_before w.sessions m.session) k ≡ false
+          → success_row w (max w.clock time) m.session k ≡ row_at w k
+      other Boots is none e = refl
+      other (RecordOf j) is none e =
+          let d : eqb j.0 m.session.id.0 ≡ false = ap (λ (i : SessionId). eqb j.0 i.0) (sym id_is)
+          ∙ no_record session j (backups_taken m.session.parts) none in
+          rw (d, none_outdated w s.simple m.session j) refl
+      other (ActiveOf name) is none e = refl
+      other (BackupOf name) is none e = backup_if name (names name m.session) refl none
+      other (FileOf sid part path) is none e =
+          ap (λ b. freed b (after_success (max w.clock time) m.session w.sessions) sid part (row_at w (FileOf sid part path)))
+          (gives w s.simple m.session low sid part ∙ e)
+      other (DataOf name key) is none e = refl
+      other (SnapshotOf j name key) is none e =
+          ap (λ b. cond b None (row_at w (SnapshotOf j name key))) (none_outdated w s.simple m.session j)
+      other (PreRestoreOf j name key) is none e =
+          cond_none (eqb j.0 m.session.id.0) (row_at w (PreRestoreOf j name key)) (no_restore w s.simple m.session j name key)
+      other (WatchOf observer name) is none e = refl
+
+      own_row : IsRowOf after (record_change session)
+      own_row = record {
+        key = RecordOf session.id;
+        is_key = (later.ranges.sessions session (with_self session w.sessions)).id;
+        spelled = refl;
+        value = sym (at_key (RecordOf session.id)
+            ∙ rw (eq-eqb session.id.0 m.session.id.0 (ap (λ (i : SessionId). i.0) id_is)) refl
+            ∙ ap (λ (o : Option RollbackState). Some (record_text (cond (is_enabling o)
+            (record m.session { state = state.Success; rollback = Some Available; moment = max w.clock time })
+            (record m.session { state = state.Success })))) (s.simple.plain.sessions m.session among).rollback
+            ∙ ap (λ (x : Record). Some (record_text x)) (sym succeeded));
+      }
+
+      backup_row : (ps : List Part) → ((p : Part) → In p ps → In p m.session.parts) → (row : Row)
+          → In row (backups_taken ps) → IsRowOf after row
+      backup_row [] all row i = absurd i
+      backup_row (p ∷ ps) all row (inr i) = absurd i
+      backup_row (p ∷ ps) all row (inl e) = subst (IsRowOf after) e (record {
+        key = BackupOf p.name;
+        is_key = tt;
+        spelled = refl;
+        value = sym (at_key (BackupOf p.name)
+            ∙ ap (λ b. cond b None (row_at w (BackupOf p.name))) (names_own m.session p (all p (inl refl))));
+      })
+
+      each : (row : Row) → In row head → IsRowOf after row
+      each row (inl e) = subst (IsRowOf after) e own_row
+      each row (inr i) = backup_row m.session.parts (λ p j. j) row i
+
+      leads : changed (rows w) (head ++ files_taken (rows w) (held_before w.sessions m.session)) ≡ rows after
+      leads = files_lead w after law later head each (held_before w.sessions m.session) held_is goes
+          (λ k is none e. at_key k ∙ other k is none e)
+
+      -- a success that is done
+      pub success_done : (judged : Judged) (clock : ℕ) → judged.reply ≡ reply.Done
+          → judged.rows.items ≡ success_batch kept_rows tables.sessions.items session
+          → judged.patch ≡ Success place session clock → clock ≡ max tables.clock time
+          → IsJudged judged kept_rows w (calls.Success time id)
+      success_done judged clock says batch patch later_one =
+          judged_is judged clock says
+          (ap (changed (rows w)) (batch
+          ∙ ap (λ (k : RowMap). success_batch k tables.sessions.items session) s.stored
+          ∙ ap (λ (ss : List Record). success_batch (rows w) ss session) s.sessions
+          ∙ ap (λ (x : Record). (record_change session ∷ backups_taken x.parts)
+          ++ files_taken (rows w) (held_before w.sessions x)) same) ∙ leads) patch later_one

@@ -1,0 +1,27 @@
+-- The rows that a success changes in a world of plain sessions: docs/rows.md, "After a call".
+use Rattle.std.specs.Prelude.{List, [], ◌∷◌, ◌++◌, Some}
+use Rattle.apex_base.specs.declared.records.Part.{Part}
+use Rattle.apex_base.specs.declared.records.Record.{Record}
+use Rattle.apex_base.specs.declared.records.Target.{Target}
+use Rattle.apex_base.specs.Held.{before}
+use Rattle.apex_base.specs.Keys.{BackupOf, RecordOf, RowMap, key_text}
+use Rattle.apex_base.specs.Spelling.{record_text}
+use Rattle.row_codec.specs.declared.batch.Row.{Row}
+use Rattle.apex_core.specs.Taken.{deletion, files_taken, first_of}
+
+-- the row of a session's record
+abbrev pub record_change : Record → Row
+record_change r = record { key = key_text (RecordOf r.id); value = Some (record_text r) }
+
+-- what the name of a session held before it
+abbrev pub held_before : List Record → Record → Target
+held_before sessions r = first_of (λ p. before sessions r p.name) r.parts
+
+-- the row of what it held before goes
+abbrev pub backups_taken : List Part → List Row
+backups_taken [] = []
+backups_taken (p ∷ ps) = deletion (key_text (BackupOf p.name)) ∷ []
+
+-- the session's record, the row of what its name held before, and the files of that
+abbrev pub success_batch : RowMap → List Record → Record → List Row
+success_batch rows sessions r = (record_change r ∷ backups_taken r.parts) ++ files_taken rows (held_before sessions r)

@@ -1,0 +1,58 @@
+//! The rows of a module's files.
+ghost use Rattle.std.specs.Prelude.{◌≡◌, ◌++◌, ◌<◌, [], OnOk};
+ghost use Rattle.std.specs.FinMap as fin;
+ghost use Rattle.apex_base.specs.Keys.{file_front};
+ghost use Rattle.session_record.specs.Room.{HasPartNumber};
+ghost use Rattle.apex_core.specs.Taken.{taken, files_taken};
+
+use apex_base::{Listed, SessionId, Target};
+use row_codec::Row;
+use row_map::Rows;
+use std::alloc::{AllocError, Global};
+
+/// Adds to a batch that the rows of a module's files go: each that is there, ascending by key.
+pub(crate) fn take_files(
+    alloc: Global,
+    rows: &Rows,
+    target: Target,
+    batch: &mut Vec<Row>,
+) -> Result<(), AllocError>
+    requires { HasPartNumber target }
+    ensures { OnOk result (batch.new.items ≡ batch.old.items ++ files_taken rows.now target) }
+{
+    match target {
+        Target::Preinstalled => Ok(()),
+        Target::Module {
+            session,
+            part,
+            version: _,
+        } => take_rows(alloc, rows, &file_front(session, part), batch),
+    }
+}
+
+/// The first bytes of the keys of a module's files.
+fn file_front(session: SessionId, part: u32) -> [u8; 6]
+    requires { part < 256 }
+    ensures { result ≡ file_front session part [] }
+{
+    let [a, b, c, d] = session.0.to_be_bytes();
+    [5, a, b, c, d, part as u8]
+}
+
+/// Adds to a batch that the rows whose keys begin so go.
+fn take_rows(
+    alloc: Global,
+    rows: &Rows,
+    front: &[u8],
+    batch: &mut Vec<Row>,
+) -> Result<(), AllocError>
+    ensures { OnOk result (batch.new.items ≡ batch.old.items ++ taken front.now (fin.keys rows.now)) }
+{
+    for (key, _) in rows.by_key() {
+        if key.starts_with(front) {
+            let key = Listed::of(key.as_slice().to_vec(alloc)?);
+            batch.push(Row { key, value: None })?;
+        }
+    }
+    Ok(())
+}
