@@ -6,6 +6,7 @@ pub mod GivenUp
 pub mod Judgements
 pub mod Moved
 pub mod Performed
+pub mod RowRange
 pub mod Search
 pub mod Simple
 pub mod Successes

@@ -121,7 +121,7 @@ below : (key : List ℕ) (es : List (List ℕ × List ℕ)) → below_all (slice
 below key [] e = tt
 below key (x ∷ es) e = let (a, b) = and_parts _ _ e in (is_less _ a, below key es b)
 
-ascend : (es : List (List ℕ × List ℕ)) → is_sorted (slice_cmp nat_cmp) es ≡ true
+pub ascend : (es : List (List ℕ × List ℕ)) → is_sorted (slice_cmp nat_cmp) es ≡ true
     → IsStrictlySortedBy (slice_cmp nat_cmp) (map (λ (e : List ℕ × List ℕ). e.0) es)
 unfolding IsStrictlySortedBy
 ascend [] e = tt

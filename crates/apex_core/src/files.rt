@@ -48,11 +48,13 @@ fn take_rows(
 ) -> Result<(), AllocError>
     ensures { OnOk result (batch.new.items ≡ batch.old.items ++ taken front.now (fin.keys rows.now)) }
 {
-    for (key, _) in rows.by_key() {
-        if key.starts_with(front) {
-            let key = Listed::of(key.as_slice().to_vec(alloc)?);
-            batch.push(Row { key, value: None })?;
+    let start = front.to_vec(alloc)?;
+    for (key, _) in rows.by_key().range(&start..) {
+        if !key.starts_with(front) {
+            break;
         }
+        let key = Listed::of(key.as_slice().to_vec(alloc)?);
+        batch.push(Row { key, value: None })?;
     }
     Ok(())
 }
