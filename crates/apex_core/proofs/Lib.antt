@@ -9,5 +9,6 @@ pub mod Performed
 pub mod RowRange
 pub mod Search
 pub mod Simple
+pub mod SuccessBatches
 pub mod Successes
 pub mod TakenFiles

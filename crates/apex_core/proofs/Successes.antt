@@ -1,10 +1,7 @@
--- What a success of a simple world judges. Callers want `success_again`, `success_done`, `success_ascends`,
--- `success_room`, `held_numbered` and `time_is`.
+-- What a success of a simple world judges. Callers want `success_again`, `success_done`, `success_room`,
+-- `held_numbered` and `time_is`.
 use Rattle.std.proofs.Common.{◌≡◌, ◌≤◌, ℕ, Bool, true, false, cond, eqb, eq-eqb, List, [], ◌∷◌, ◌++◌, length, max, Option, Some, None, sym, ap, subst, ◌∙◌, refl, inl, inr, arith}
 use Rattle.std.specs.Prelude.{not}
-use Rattle.std.specs.Cmp.Lexicographic.{slice_cmp}
-use Rattle.std.specs.List.Sorted.{IsStrictlySortedBy}
-use Rattle.std.specs.Ordering.{nat_cmp}
 use Rattle.std.proofs.Math.Nat.{le-max_right}
 use Rattle.std.proofs.lemmas.Bool.{false≢true}
 use Rattle.apex_base.specs.declared.moves.Move.TheVariants as step_of
@@ -25,13 +22,12 @@ use Rattle.apex_base.specs.Sessions.{names, session_of, with_session}
 use Rattle.apex_base.specs.Spelling.{IsTarget, record_text}
 use Rattle.apex_base.proofs.SessionLemmas.{of_found, with_found, with_self}
 use Rattle.row_codec.specs.declared.batch.Row.{Row}
-use Rattle.row_codec.specs.Batch.{keys_of}
 use Rattle.row_map.specs.Rows.{changed}
 use Rattle.row_map.specs.Room.{in_batch}
 use Rattle.session_record.specs.Room.{HasPartNumber, HasRoom}
 use Rattle.apex_world.specs.declared.calls.Call.TheVariants as calls
 use Rattle.apex_world.specs.declared.calls.Reply.TheVariants as reply
-use Rattle.apex_world.specs.Advance.{move_session, after_success, success_to, success_found}
+use Rattle.apex_world.specs.Advance.{after_success, success_to, success_found}
 use Rattle.apex_world.specs.Lawful.{Lawful}
 use Rattle.apex_world.specs.Limits.{units}
 use Rattle.apex_world.specs.Rows.{rows, row_at}
@@ -54,10 +50,11 @@ use Rattle.apex_core.specs.Taken.{files_taken}
 use Rattle.apex_core.proofs.Aborts.{numbered}
 use Rattle.apex_core.proofs.Batches.{IsRowOf, batch_leads}
 use Rattle.apex_core.proofs.BeforeGoes.{before_goes}
-use Rattle.apex_core.proofs.GivenUp.{held_target_of, held_by, backup_there, none_outdated, no_restore, gives}
+use Rattle.apex_core.proofs.GivenUp.{held_target_of, held_by, none_outdated, no_restore, gives}
 use Rattle.apex_core.proofs.FileBatches.{of_module, files_lead}
-use Rattle.apex_core.proofs.TakenFiles.{IsBelowFiles, all_ascend, not_second}
-use Rattle.apex_core.proofs.Moved.{no_record, one_part, is_found, its_id, step_is, runs_on, stays_simple, moved_is, has_room_moved}
+use Rattle.apex_core.proofs.SuccessBatches.{backup_there}
+use Rattle.apex_core.proofs.TakenFiles.{not_second}
+use Rattle.apex_core.proofs.Moved.{Moving, left_by, no_record, one_part, is_found, its_id, step_is, runs_on, stays_simple, moved_is, has_room_moved}
 
 -- a session that can be marked successful is ACTIVATED, or SUCCESS already
 success_state : (a b : State) → moved a step_of.Success ≡ Some b → b ≡ state.Success
@@ -94,27 +91,6 @@ is_success_state state.Aborted e = absurd (cc)
 pub time_is : (a b clock : ℕ) → clock ≡ max a b → IsMillis clock → IsMillis b
 time_is a b clock e is = omega (arith, le-max_right a b, e, is)
 
--- The batch ascends
-
-head_ascends : (r : Record) (ps : List Part)
-    → IsStrictlySortedBy (slice_cmp nat_cmp) (keys_of (record_change r ∷ backups_taken ps))
-unfolding IsStrictlySortedBy
-head_ascends r [] = (tt, tt)
-head_ascends r (p ∷ ps) = ((refl, tt), (tt, tt))
-
-head_below : (r : Record) (ps : List Part) (row : Row) → In row (record_change r ∷ backups_taken ps)
-    → IsBelowFiles row.key
-head_below r ps row (inl e) rest = ap (λ (x : Row). slice_cmp nat_cmp x.key (5 ∷ rest)) (sym e)
-head_below r [] row (inr i) rest = absurd i
-head_below r (p ∷ ps) row (inr (inl e)) rest = ap (λ (x : Row). slice_cmp nat_cmp x.key (5 ∷ rest)) (sym e)
-head_below r (p ∷ ps) row (inr (inr i)) rest = absurd i
-
-pub success_ascends : (m : RowMap) (sessions : List Record) (r : Record)
-    → IsStrictlySortedBy (slice_cmp nat_cmp) (keys_of (success_batch m sessions r))
-success_ascends m sessions r =
-    all_ascend m (held_before sessions r) (record_change r ∷ backups_taken r.parts) (head_ascends r r.parts)
-    (head_below r r.parts)
-
 -- The rows of another clock
 
 other_clock : (w : World) (clock : ℕ) (k : Key) → row_at (record w { clock = clock }) k ≡ row_at w k
@@ -132,17 +108,14 @@ cond_none : (b : Bool) (o : Option (List ℕ)) → o ≡ None → cond b None o 
 cond_none true o e = sym e
 cond_none false o e = refl
 
-module _ (kept_rows : RowMap) (tables : Tables) (w : World) (s : StandsFor kept_rows tables w) (time : ℕ)
-    (is_time : IsMillis time) (id : SessionId) (place : ℕ) (next : State)
-    (m : Moves tables.sessions.items id step_of.Success place next) where
-  call_is : step w (calls.Success time id) ≡ move_session w (max w.clock time) id step_of.Success
-  call_is = success_plain w s.simple.plain time id
-
+module _ (kept_rows : RowMap) (tables : Tables) (w : World) (s : StandsFor kept_rows tables w) (id : SessionId)
+    (place : ℕ) (next : State) (m : Moves tables.sessions.items id step_of.Success place next) (session : Record)
+    (same : session ≡ record m.session { state = next; rollback = m.session.rollback }) where
   law : Lawful w
   law = s.running.lawful
 
   found_it : session_of w.sessions id ≡ Some m.session
-  found_it = is_found kept_rows tables w s (calls.Success time id) (max w.clock time) id step_of.Success call_is place next m
+  found_it = is_found kept_rows tables w s id step_of.Success place next m
 
   among : In m.session w.sessions
   among = (of_found w.sessions id m.session found_it).0
@@ -153,42 +126,56 @@ module _ (kept_rows : RowMap) (tables : Tables) (w : World) (s : StandsFor kept_
   held_is : IsTarget (held_before w.sessions m.session)
   held_is = held_target_of w law m.session m.session.parts
 
-  module _ (session : Record) (same : session ≡ record m.session { state = next; rollback = m.session.rollback }) where
-    pub success_room : HasRoom session
-    success_room = has_room_moved kept_rows tables w s (calls.Success time id) (max w.clock time) id step_of.Success
-        call_is place next m session same
+  pub success_room : HasRoom session
+  success_room = has_room_moved kept_rows tables w s id step_of.Success place next m session same
 
-    pub held_numbered : HasPartNumber (held_before tables.sessions.items session)
-    held_numbered =
-        subst (λ (ss : List Record). HasPartNumber (held_before ss session)) (sym s.sessions)
-        (subst (λ (x : Record). HasPartNumber (held_before w.sessions x)) (sym same)
-        (numbered (held_before w.sessions m.session) held_is))
+  pub held_numbered : HasPartNumber (held_before tables.sessions.items session)
+  held_numbered =
+      subst (λ (ss : List Record). HasPartNumber (held_before ss session)) (sym s.sessions)
+      (subst (λ (x : Record). HasPartNumber (held_before w.sessions x)) (sym same)
+      (numbered (held_before w.sessions m.session) held_is))
+
+  module _ (time : ℕ) (is_time : IsMillis time) where
+    abbrev g : Moving
+    g = record {
+      kept = kept_rows;
+      tables = tables;
+      w = w;
+      stands = s;
+      call = calls.Success time id;
+      is_call = is_time;
+      clock = max w.clock time;
+      id = id;
+      by = step_of.Success;
+      called = success_plain w s.simple.plain time id;
+      stays = refl;
+      place = place;
+      next = next;
+      moves = m;
+      session = session;
+      same = same;
+    }
 
     abbrev after : World
-    after = record w { sessions = with_session session w.sessions; clock = max w.clock time }
+    after = left_by g
 
     called : step w (calls.Success time id) ≡ done after
-    called = step_is kept_rows tables w s (calls.Success time id) (max w.clock time) id step_of.Success call_is place next
-        m refl session same
+    called = step_is g
 
     later : Lawful after
-    later = (runs_on kept_rows tables w s (calls.Success time id) (max w.clock time) id step_of.Success call_is place next
-        m refl session same is_time).lawful
+    later = (runs_on g).lawful
 
     still : IsSimple after
-    still = stays_simple kept_rows tables w s (calls.Success time id) (max w.clock time) id step_of.Success call_is place
-        next m refl session same
+    still = stays_simple g
 
     id_is : session.id ≡ m.session.id
-    id_is = its_id kept_rows tables w s (calls.Success time id) (max w.clock time) id step_of.Success call_is place next m
-        refl session same
+    id_is = its_id g
 
     judged_is : (judged : Judged) (clock : ℕ) → judged.reply ≡ reply.Done
         → changed (rows w) judged.rows.items ≡ rows after → judged.patch ≡ Success place session clock
         → clock ≡ max tables.clock time → IsJudged judged kept_rows w (calls.Success time id)
     judged_is judged clock says leads patch later_one =
-        moved_is kept_rows tables w s (calls.Success time id) (max w.clock time) id step_of.Success call_is place next m refl
-        session same judged is_time says leads
+        moved_is g judged says leads
         (ap (λ (p : Patch). patched p w.sessions) patch)
         (ap (λ (p : Patch). clock_after p w.clock) patch ∙ later_one ∙ ap (λ n. max n time) s.clock)
         (ap (λ (p : Patch). units_after p (units w)) patch)

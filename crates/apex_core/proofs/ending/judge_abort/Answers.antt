@@ -26,7 +26,7 @@ record_rows-requires c =
     let m = c.in-Ok.ensures.moves in
     let r = c.index-r.result.now in
     let (w, s) = c.requires.stands in
-    has_room_moved c.args.rows.now c.args.tables.now w s (calls.Abort c.args.id) w.clock c.args.id step_of.Abort refl
+    has_room_moved c.args.rows.now c.args.tables.now w s c.args.id step_of.Abort
     c.in-Ok.to.0 c.in-Ok.to.1 m c.in_ok-session.session (moved_from r m.session c.in_ok-session.session c.in-Ok.to.1
     (read_is c.args.tables.now.sessions.items c.args.id step_of.Abort c.in-Ok.to.0 c.in-Ok.to.1 m r c.index-r.ensures)
     c.in_ok-session.ensures)
