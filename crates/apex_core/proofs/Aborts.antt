@@ -1,5 +1,6 @@
 -- What an abort of a simple world judges. Callers want `abort_done`, `abort_ascends` and `abort_numbered`.
-use Rattle.std.proofs.Common.{◌≡◌, ℕ, Bool, true, false, cond, eqb, eq-eqb, List, [], ◌∷◌, Some, None, sym, ap, subst, ◌∙◌, refl, inl, inr}
+use Rattle.std.proofs.Common.{◌≡◌, ℕ, Bool, true, false, cond, eqb, eq-eqb, List, [], ◌∷◌, Some, None, sym, ap, subst}
+use Rattle.std.proofs.Common.{◌∙◌, refl, inl, inr}
 use Rattle.std.specs.Cmp.Lexicographic.{slice_cmp}
 use Rattle.std.specs.Ordering.{nat_cmp}
 use Rattle.apex_base.specs.declared.moves.Move.TheVariants as step_of
@@ -13,7 +14,8 @@ use Rattle.apex_base.specs.declared.records.State.TheVariants as state
 use Rattle.apex_base.specs.declared.records.Target.{Target}
 use Rattle.apex_base.specs.Commit.{is_waiting}
 use Rattle.apex_base.specs.Held.{is_module}
-use Rattle.apex_base.specs.Keys.{Key, Boots, RecordOf, ActiveOf, BackupOf, FileOf, DataOf, SnapshotOf, PreRestoreOf, WatchOf, IsKey, RowMap, key_text}
+use Rattle.apex_base.specs.Keys.{Key, Boots, RecordOf, ActiveOf, BackupOf, FileOf, DataOf, SnapshotOf, PreRestoreOf}
+use Rattle.apex_base.specs.Keys.{WatchOf, IsKey, RowMap, key_text}
 use Rattle.apex_base.specs.declared.records.Target.TheVariants as targets
 use Rattle.session_record.specs.Room.{HasPartNumber}
 use Rattle.apex_base.proofs.MemberLemmas.{each_in}
@@ -47,7 +49,8 @@ use Rattle.apex_core.specs.Taken.{files_taken, first_of}
 use Rattle.apex_core.proofs.Batches.{IsRowOf}
 use Rattle.apex_core.proofs.FileBatches.{of_module, files_lead}
 use Rattle.apex_core.proofs.TakenFiles.{IsBelowFiles}
-use Rattle.apex_core.proofs.Moved.{Moving, left_by, no_record, one_target, one_part, is_found, is_among, record_is, its_id, session_is, step_is, runs_on, moved_is}
+use Rattle.apex_core.proofs.Moved.{Moving, left_by, no_record, one_target, one_part, is_found, is_among, record_is}
+use Rattle.apex_core.proofs.Moved.{its_id, session_is, step_is, runs_on, moved_is}
 
 abbrev pub own_target : Record → Target
 own_target r = first_of (λ p. p.target) r.parts
@@ -103,7 +106,8 @@ module _ (kept : RowMap) (tables : Tables) (w : World) (s : StandsFor kept table
   its_kind : m.session.kind ≡ Plain
   its_kind = (s.simple.plain.sessions m.session among).kind
 
-  one_own : (session : SessionId) (part : ℕ) → has_target m.session session part ≡ is_module session part (own_target m.session)
+  one_own : (session : SessionId) (part : ℕ)
+      → has_target m.session session part ≡ is_module session part (own_target m.session)
   one_own = one_target (λ p. p.target) m.session.parts (one_part w s.running.lawful s.simple m.session among)
 
   module _ (session : Record) (same : session ≡ record m.session { state = next; rollback = m.session.rollback }) where
@@ -134,7 +138,10 @@ module _ (kept : RowMap) (tables : Tables) (w : World) (s : StandsFor kept table
     called = step_is g
 
     aborted_is : aborted m.session ≡ session
-    aborted_is = ap (λ (b : State). record m.session { state = b; rollback = rollback_after step_of.Abort m.session.rollback })
+    aborted_is = ap (λ (b : State). record m.session {
+      state = b;
+      rollback = rollback_after step_of.Abort m.session.rollback;
+    })
         (sym (waits_if m.session.state next m.goes).1)
         ∙ session_is g
 
@@ -198,9 +205,8 @@ module _ (kept : RowMap) (tables : Tables) (w : World) (s : StandsFor kept table
         → judged.rows.items ≡ record_change session ∷ files_taken kept (own_target m.session)
         → judged.patch ≡ Session place session → IsJudged judged kept w (calls.Abort id)
     abort_done judged says batch patch =
-        moved_is g judged
-        says
-        (ap (changed (rows w)) (batch ∙ ap (λ (k : RowMap). record_change session ∷ files_taken k (own_target m.session))
-        s.stored) ∙ leads)
+        moved_is g judged says
+        (ap (changed (rows w)) (batch
+        ∙ ap (λ (k : RowMap). record_change session ∷ files_taken k (own_target m.session)) s.stored) ∙ leads)
         (ap (λ (p : Patch). patched p w.sessions) patch) (ap (λ (p : Patch). clock_after p w.clock) patch)
         (ap (λ (p : Patch). units_after p (units w)) patch)

@@ -1,6 +1,7 @@
 -- What a success gives up in a simple world. Callers want `held_target_of`, `held_by`,
 -- `none_outdated`, `no_restore` and `gives`.
-use Rattle.std.proofs.Common.{◌≡◌, ◌≤◌, ℕ, Bool, true, false, cond, List, [], ◌∷◌, length, Option, Some, None, sym, ap, subst, ◌∙◌, refl, inl, inr, ◌&&◌, ◌||◌}
+use Rattle.std.proofs.Common.{◌≡◌, ◌≤◌, ℕ, Bool, true, false, cond, List, [], ◌∷◌, length, Option, Some, None, sym}
+use Rattle.std.proofs.Common.{ap, subst, ◌∙◌, refl, inl, inr, ◌&&◌, ◌||◌}
 use Rattle.std.specs.Prelude.{nat_lt, option_and_then, if◌then◌else◌}
 use Rattle.std.specs.List.{list_any}
 use Rattle.std.proofs.lemmas.Bool.{false≢true, false_from_ne_true, and_parts}

@@ -10,5 +10,6 @@ pub mod RowRange
 pub mod Search
 pub mod Simple
 pub mod SuccessBatches
+pub mod SuccessStates
 pub mod Successes
 pub mod TakenFiles

@@ -1,6 +1,7 @@
 -- Calls that move one session of a simple world. Callers want `Moving` and the lemmas on it, `refused_is`, `is_found`,
 -- `record_is`, `no_record`, `read_is`, `moved_from`, `has_room_moved`, `one_target` and `one_part`.
-use Rattle.std.proofs.Common.{◌≡◌, ◌≤◌, ℕ, Bool, true, false, eqb, eqb-true, List, [], ◌∷◌, map, length, slice_set, get_or, Option, Some, None, sym, ap, subst, ◌∙◌, refl, inl, inr, arith, ◌||◌}
+use Rattle.std.proofs.Common.{◌≡◌, ◌≤◌, ℕ, Bool, true, false, eqb, eqb-true, List, [], ◌∷◌, map, length, slice_set}
+use Rattle.std.proofs.Common.{get_or, Option, Some, None, sym, ap, subst, ◌∙◌, refl, inl, inr, arith, ◌||◌}
 use Rattle.std.proofs.lemmas.Bool.{false≢true}
 use Rattle.std.proofs.lemmas.Option.{slice_get_read}
 use Rattle.apex_base.specs.declared.moves.Move.{Move}

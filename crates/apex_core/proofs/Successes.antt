@@ -1,8 +1,8 @@
--- What a success of a simple world judges. Callers want `success_again`, `success_done`, `success_room`,
--- `held_numbered` and `time_is`.
-use Rattle.std.proofs.Common.{◌≡◌, ◌≤◌, ℕ, Bool, true, false, cond, eqb, eq-eqb, List, [], ◌∷◌, ◌++◌, length, max, Option, Some, None, sym, ap, subst, ◌∙◌, refl, inl, inr, arith}
+-- What a success of a simple world judges. Callers want `success_again`, `success_done`, `success_room`
+-- and `held_numbered`.
+use Rattle.std.proofs.Common.{◌≡◌, ◌≤◌, ℕ, Bool, true, false, cond, eqb, eq-eqb, List, [], ◌∷◌, ◌++◌, length, max}
+use Rattle.std.proofs.Common.{Option, Some, None, sym, ap, subst, ◌∙◌, refl, inl, inr}
 use Rattle.std.specs.Prelude.{not}
-use Rattle.std.proofs.Math.Nat.{le-max_right}
 use Rattle.std.proofs.lemmas.Bool.{false≢true}
 use Rattle.apex_base.specs.declared.moves.Move.TheVariants as step_of
 use Rattle.apex_base.specs.declared.numbers.SessionId.{SessionId}
@@ -13,9 +13,9 @@ use Rattle.apex_base.specs.declared.records.RollbackState.TheVariants.{Available
 use Rattle.apex_base.specs.declared.records.State.{State}
 use Rattle.apex_base.specs.declared.records.State.TheVariants as state
 use Rattle.apex_base.specs.Held.{is_success, is_module, is_target, kept}
-use Rattle.apex_base.specs.Keys.{Key, Boots, RecordOf, ActiveOf, BackupOf, FileOf, DataOf, SnapshotOf, PreRestoreOf, WatchOf, IsKey, RowMap, key_text}
+use Rattle.apex_base.specs.Keys.{Key, Boots, RecordOf, ActiveOf, BackupOf, FileOf, DataOf, SnapshotOf, PreRestoreOf}
+use Rattle.apex_base.specs.Keys.{WatchOf, IsKey, RowMap, key_text}
 use Rattle.apex_base.specs.Members.{In}
-use Rattle.apex_base.specs.Moves.{moved}
 use Rattle.apex_base.specs.Ranges.{IsMillis}
 use Rattle.apex_base.specs.Rollbacks.{is_enabling}
 use Rattle.apex_base.specs.Sessions.{names, session_of, with_session}
@@ -53,56 +53,10 @@ use Rattle.apex_core.proofs.BeforeGoes.{before_goes}
 use Rattle.apex_core.proofs.GivenUp.{held_target_of, held_by, none_outdated, no_restore, gives}
 use Rattle.apex_core.proofs.FileBatches.{of_module, files_lead}
 use Rattle.apex_core.proofs.SuccessBatches.{backup_there}
+use Rattle.apex_core.proofs.SuccessStates.{success_state, activated_state, is_success_state, other_clock}
 use Rattle.apex_core.proofs.TakenFiles.{not_second}
-use Rattle.apex_core.proofs.Moved.{Moving, left_by, no_record, one_part, is_found, its_id, step_is, runs_on, stays_simple, moved_is, has_room_moved}
-
--- a session that can be marked successful is ACTIVATED, or SUCCESS already
-success_state : (a b : State) → moved a step_of.Success ≡ Some b → b ≡ state.Success
-success_state state.Verified b e = absurd (cc)
-success_state state.Staged b e = absurd (cc)
-success_state state.Activated b e = cc
-success_state state.ActivationFailed b e = absurd (cc)
-success_state state.Success b e = cc
-success_state state.RevertInProgress b e = absurd (cc)
-success_state state.Reverted b e = absurd (cc)
-success_state state.Aborted b e = absurd (cc)
-
-activated_state : (a b : State) → moved a step_of.Success ≡ Some b → is_success a ≡ false → a ≡ state.Activated
-activated_state state.Verified b e f = absurd (cc)
-activated_state state.Staged b e f = absurd (cc)
-activated_state state.Activated b e f = refl
-activated_state state.ActivationFailed b e f = absurd (cc)
-activated_state state.Success b e f = absurd (cc)
-activated_state state.RevertInProgress b e f = absurd (cc)
-activated_state state.Reverted b e f = absurd (cc)
-activated_state state.Aborted b e f = absurd (cc)
-
-is_success_state : (a : State) → is_success a ≡ true → a ≡ state.Success
-is_success_state state.Verified e = absurd (cc)
-is_success_state state.Staged e = absurd (cc)
-is_success_state state.Activated e = absurd (cc)
-is_success_state state.ActivationFailed e = absurd (cc)
-is_success_state state.Success e = refl
-is_success_state state.RevertInProgress e = absurd (cc)
-is_success_state state.Reverted e = absurd (cc)
-is_success_state state.Aborted e = absurd (cc)
-
--- a moment that is at most another is one
-pub time_is : (a b clock : ℕ) → clock ≡ max a b → IsMillis clock → IsMillis b
-time_is a b clock e is = omega (arith, le-max_right a b, e, is)
-
--- The rows of another clock
-
-other_clock : (w : World) (clock : ℕ) (k : Key) → row_at (record w { clock = clock }) k ≡ row_at w k
-other_clock w clock Boots = refl
-other_clock w clock (RecordOf id) = refl
-other_clock w clock (ActiveOf name) = refl
-other_clock w clock (BackupOf name) = refl
-other_clock w clock (FileOf id part path) = refl
-other_clock w clock (DataOf name key) = refl
-other_clock w clock (SnapshotOf id name key) = refl
-other_clock w clock (PreRestoreOf id name key) = refl
-other_clock w clock (WatchOf observer name) = refl
+use Rattle.apex_core.proofs.Moved.{Moving, left_by, no_record, one_part, is_found, its_id, step_is, runs_on}
+use Rattle.apex_core.proofs.Moved.{stays_simple, moved_is, has_room_moved}
 
 cond_none : (b : Bool) (o : Option (List ℕ)) → o ≡ None → cond b None o ≡ o
 cond_none true o e = sym e
@@ -226,7 +180,8 @@ module _ (kept_rows : RowMap) (tables : Tables) (w : World) (s : StandsFor kept_
           before_goes w after law later still m.session session among active succeeded refl p.name
           (names_own m.session p i) sid part has in
           at_key (FileOf sid part path)
-          ∙ ap (λ b. freed b (after_success (max w.clock time) m.session w.sessions) sid part (row_at w (FileOf sid part path)))
+          ∙ ap (λ b. freed b (after_success (max w.clock time) m.session w.sessions) sid part
+          (row_at w (FileOf sid part path)))
           (gives w s.simple m.session low sid part ∙ e)
           ∙ ap (λ b. cond (not b) None (row_at w (FileOf sid part path)))
           (ap (λ ss. is_target (kept ss) sid part) sessions_are ∙ no_more)
@@ -253,13 +208,15 @@ module _ (kept_rows : RowMap) (tables : Tables) (w : World) (s : StandsFor kept_
       other (ActiveOf name) is none e = refl
       other (BackupOf name) is none e = backup_if name (names name m.session) refl none
       other (FileOf sid part path) is none e =
-          ap (λ b. freed b (after_success (max w.clock time) m.session w.sessions) sid part (row_at w (FileOf sid part path)))
+          ap (λ b. freed b (after_success (max w.clock time) m.session w.sessions) sid part
+          (row_at w (FileOf sid part path)))
           (gives w s.simple m.session low sid part ∙ e)
       other (DataOf name key) is none e = refl
       other (SnapshotOf j name key) is none e =
           ap (λ b. cond b None (row_at w (SnapshotOf j name key))) (none_outdated w s.simple m.session j)
       other (PreRestoreOf j name key) is none e =
-          cond_none (eqb j.0 m.session.id.0) (row_at w (PreRestoreOf j name key)) (no_restore w s.simple m.session j name key)
+          cond_none (eqb j.0 m.session.id.0) (row_at w (PreRestoreOf j name key))
+          (no_restore w s.simple m.session j name key)
       other (WatchOf observer name) is none e = refl
 
       own_row : IsRowOf after (record_change session)

@@ -39,7 +39,7 @@ fn file_front(session: SessionId, part: u32) -> [u8; 6]
     [5, a, b, c, d, part as u8]
 }
 
-/// Adds to a batch that the rows whose keys begin so go.
+/// Adds to a batch that the rows whose keys begin so go. It reads these rows, and one more.
 fn take_rows(
     alloc: Global,
     rows: &Rows,

@@ -14,7 +14,8 @@ use Rattle.apex_core.specs.Ending.{held_before, success_batch}
 use Rattle.apex_core.proofs.Batches.{none_ascend}
 use Rattle.apex_core.proofs.Moved.{read_is, moved_from, refused_is}
 use Rattle.apex_core.proofs.SuccessBatches.{success_ascends}
-use Rattle.apex_core.proofs.Successes.{success_again, success_done, success_room, held_numbered, time_is}
+use Rattle.apex_core.proofs.Successes.{success_again, success_done, success_room, held_numbered}
+use Rattle.apex_core.proofs.SuccessStates.{time_is}
 use Rattle.apex_core.proofs.ending.judge_success.Goals.{then-is_success, else-is_success+in_ok-batch}
 use Rattle.apex_core.proofs.ending.judge_success.Goals as goal
 
@@ -60,10 +61,12 @@ returns-clause-judged c w s =
     ap (λ (x : Record). is_success x.state) (sym read) ∙ sym c.is_success.ensures in
     elim c.if-is_success.branch [
       | then-is_success b ↦ success_again c.args.rows.now c.args.tables.now w s c.args.id
-          c.in-Ok.to.0 c.in-Ok.to.1 m session same c.args.time is_time _ c.later_of-clock.result (tells ∙ b.if-is_success.true) refl
+          c.in-Ok.to.0 c.in-Ok.to.1 m session same c.args.time is_time _ c.later_of-clock.result
+          (tells ∙ b.if-is_success.true) refl
           (ap (λ v. v.items) b.batch-is ∙ b.new-batch.ensures.items) refl c.later_of-clock.ensures.later
       | else-is_success+in_ok-batch b ↦ success_done c.args.rows.now c.args.tables.now w s c.args.id
-          c.in-Ok.to.0 c.in-Ok.to.1 m session same c.args.time is_time (tells ∙ b.if-is_success.false) _ c.later_of-clock.result refl
+          c.in-Ok.to.0 c.in-Ok.to.1 m session same c.args.time is_time (tells ∙ b.if-is_success.false) _
+          c.later_of-clock.result refl
           (ap (λ v. v.items) b.batch-is ∙ b.in_ok-batch.ensures.rows
           ∙ ap (λ ss. success_batch c.args.rows.now ss session) b.deref.ensures.value)
           refl c.later_of-clock.ensures.later
@@ -74,7 +77,8 @@ returns-clause-ascending c =
     elim c.if-is_success.branch [
       | then-is_success b ↦ none_ascend c.if-is_success.batch.items
           (ap (λ v. v.items) b.batch-is ∙ b.new-batch.ensures.items)
-      | else-is_success+in_ok-batch b ↦ subst (λ (rows : List Row). IsStrictlySortedBy (slice_cmp nat_cmp) (keys_of rows))
+      | else-is_success+in_ok-batch b ↦ subst
+          (λ (rows : List Row). IsStrictlySortedBy (slice_cmp nat_cmp) (keys_of rows))
           (sym (ap (λ v. v.items) b.batch-is ∙ b.in_ok-batch.ensures.rows))
           (success_ascends c.args.rows.now b.deref.result.now c.in_ok-session.session)
     ]

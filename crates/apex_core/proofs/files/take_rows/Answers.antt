@@ -9,9 +9,10 @@ use Rattle.apex_core.proofs.files.take_rows.Goals as goal
 
 pub loop-key-init : goal.loop-key-init
 loop-key-init c =
-    subst (λ es. Left c.args.front.now c.args.batch.now.items (fin.keys c.args.rows.now) c.args.batch.now.items (shown es))
+    let old = c.args.batch.now.items in
+    subst (λ es. Left c.args.front.now old (fin.keys c.args.rows.now) old (shown es))
     (sym c.into_iter-key-iterator.ensures.into_iter_gives)
-    (starts c.args.front.now c.args.batch.now.items c.args.rows.now c.by_key.result.now.entries c.range-key-items.result
+    (starts c.args.front.now old c.args.rows.now c.by_key.result.now.entries c.range-key-items.result
     c.in_ok-start.start c.by_key.ensures (c.in_ok-start.ensures.items_if_clones_equal (λ x y e. e))
     (c.range-key-items.ensures.between tt))
 
@@ -36,13 +37,14 @@ returns c =
     let keys = fin.keys c.args.rows.now in
     elim c.match-next.branch [
       | in-None b ↦ ends front old keys c.loop-key.batch.items
-          (subst (λ es. Left front old keys c.loop-key.batch.items (shown es)) b.in-None.ensures.steps.0 c.loop-key.invariant)
+          (subst (λ es. Left front old keys c.loop-key.batch.items (shown es)) b.in-None.ensures.steps.0
+          c.loop-key.invariant)
       | in-Some+then-not-starts_with b ↦
           let row : List ℕ × List ℕ = (b.in-Some.key.now.items, b.in-Some.field-0-1.now) in
           let begins : starts_with eqb row.0 front ≡ false =
           ap (λ key. starts_with eqb key front) (sym b.deref.ensures.value) ∙ sym b.starts_with.ensures.value
           ∙ b.if-not-starts_with.true in
           stops front old keys c.loop-key.batch.items row (shown c.next.new.self)
-          (subst (λ es. Left front old keys c.loop-key.batch.items (shown es)) b.in-Some.ensures.steps c.loop-key.invariant)
-          begins
+          (subst (λ es. Left front old keys c.loop-key.batch.items (shown es)) b.in-Some.ensures.steps
+          c.loop-key.invariant) begins
     ]
