@@ -1,5 +1,6 @@
 -- What an abort of a simple world judges. Callers want `abort_done`, `abort_ascends` and `abort_numbered`.
-use Rattle.std.proofs.Common.{◌≡◌, ℕ, Bool, true, false, cond, eqb, eq-eqb, List, [], ◌∷◌, Some, None, sym, ap, subst, ◌∙◌, refl, inl, inr}
+use Rattle.std.proofs.Common.{◌≡◌, ℕ, Bool, true, false, cond, eqb, eq-eqb, List, [], ◌∷◌, Some, None, sym, ap, subst}
+use Rattle.std.proofs.Common.{◌∙◌, refl, inl, inr}
 use Rattle.std.specs.Cmp.Lexicographic.{slice_cmp}
 use Rattle.std.specs.Ordering.{nat_cmp}
 use Rattle.apex_base.specs.declared.moves.Move.TheVariants as step_of
@@ -13,7 +14,8 @@ use Rattle.apex_base.specs.declared.records.State.TheVariants as state
 use Rattle.apex_base.specs.declared.records.Target.{Target}
 use Rattle.apex_base.specs.Commit.{is_waiting}
 use Rattle.apex_base.specs.Held.{is_module}
-use Rattle.apex_base.specs.Keys.{Key, Boots, RecordOf, ActiveOf, BackupOf, FileOf, DataOf, SnapshotOf, PreRestoreOf, WatchOf, IsKey, RowMap, key_text}
+use Rattle.apex_base.specs.Keys.{Key, Boots, RecordOf, ActiveOf, BackupOf, FileOf, DataOf, SnapshotOf, PreRestoreOf}
+use Rattle.apex_base.specs.Keys.{WatchOf, IsKey, RowMap, key_text}
 use Rattle.apex_base.specs.declared.records.Target.TheVariants as targets
 use Rattle.session_record.specs.Room.{HasPartNumber}
 use Rattle.apex_base.proofs.MemberLemmas.{each_in}
@@ -47,7 +49,8 @@ use Rattle.apex_core.specs.Taken.{files_taken, first_of}
 use Rattle.apex_core.proofs.Batches.{IsRowOf}
 use Rattle.apex_core.proofs.TakenBatches.{of_module, files_lead}
 use Rattle.apex_core.proofs.TakenFiles.{IsBelowFiles}
-use Rattle.apex_core.proofs.Moved.{no_record, one_target, one_part, is_found, is_among, record_is, its_id, session_is, step_is, runs_on, moved_is}
+use Rattle.apex_core.proofs.Moved.{Moving, left_by, no_record, one_target, one_part, is_found, is_among, record_is}
+use Rattle.apex_core.proofs.Moved.{its_id, session_is, step_is, runs_on, moved_is}
 
 abbrev pub own_target : Record → Target
 own_target r = first_of (λ p. p.target) r.parts
@@ -86,7 +89,7 @@ record_below r row (inr i) rest = absurd i
 module _ (kept : RowMap) (tables : Tables) (w : World) (s : StandsFor kept tables w) (id : SessionId) (place : ℕ)
     (next : State) (m : Moves tables.sessions.items id step_of.Abort place next) where
   is_record_of : IsRecord m.session
-  is_record_of = record_is kept tables w s (calls.Abort id) w.clock id step_of.Abort refl place next m
+  is_record_of = record_is kept tables w s id step_of.Abort place next m
 
   own_target_is : IsTarget (own_target m.session)
   own_target_is = target_is m.session.parts (each_in IsPart m.session.parts is_record_of.parts)
@@ -95,7 +98,7 @@ module _ (kept : RowMap) (tables : Tables) (w : World) (s : StandsFor kept table
   abort_numbered = numbered (own_target m.session) own_target_is
 
   among : In m.session w.sessions
-  among = is_among kept tables w s (calls.Abort id) w.clock id step_of.Abort refl place next m
+  among = is_among kept tables w s id step_of.Abort place next m
 
   waits : is_waiting m.session.state ≡ true
   waits = (waits_if m.session.state next m.goes).0
@@ -103,26 +106,50 @@ module _ (kept : RowMap) (tables : Tables) (w : World) (s : StandsFor kept table
   its_kind : m.session.kind ≡ Plain
   its_kind = (s.simple.plain.sessions m.session among).kind
 
-  one_own : (session : SessionId) (part : ℕ) → has_target m.session session part ≡ is_module session part (own_target m.session)
+  one_own : (session : SessionId) (part : ℕ)
+      → has_target m.session session part ≡ is_module session part (own_target m.session)
   one_own = one_target (λ p. p.target) m.session.parts (one_part w s.running.lawful s.simple m.session among)
 
   module _ (session : Record) (same : session ≡ record m.session { state = next; rollback = m.session.rollback }) where
+    abbrev g : Moving
+    g = record {
+      kept = kept;
+      tables = tables;
+      w = w;
+      stands = s;
+      call = calls.Abort id;
+      is_call = tt;
+      clock = w.clock;
+      id = id;
+      by = step_of.Abort;
+      called = refl;
+      stays = refl;
+      place = place;
+      next = next;
+      moves = m;
+      session = session;
+      same = same;
+    }
+
     abbrev after : World
-    after = record w { sessions = with_session session w.sessions; clock = w.clock }
+    after = left_by g
 
     called : step w (calls.Abort id) ≡ done after
-    called = step_is kept tables w s (calls.Abort id) w.clock id step_of.Abort refl place next m refl session same
+    called = step_is g
 
     aborted_is : aborted m.session ≡ session
-    aborted_is = ap (λ (b : State). record m.session { state = b; rollback = rollback_after step_of.Abort m.session.rollback })
+    aborted_is = ap (λ (b : State). record m.session {
+      state = b;
+      rollback = rollback_after step_of.Abort m.session.rollback;
+    })
         (sym (waits_if m.session.state next m.goes).1)
-        ∙ session_is kept tables w s (calls.Abort id) w.clock id step_of.Abort refl place next m refl session same
+        ∙ session_is g
 
     law : Lawful w
     law = s.running.lawful
 
     found_it : session_of w.sessions id ≡ Some m.session
-    found_it = is_found kept tables w s (calls.Abort id) w.clock id step_of.Abort refl place next m
+    found_it = is_found kept tables w s id step_of.Abort place next m
 
     at_key : (k : Key) → row_at after k ≡ abort_row w m.session k
     at_key k = ap (λ (y : Stepped). row_at y.world k) (sym called) ∙ abort_rows w law id m.session found_it waits k
@@ -139,7 +166,7 @@ module _ (kept : RowMap) (tables : Tables) (w : World) (s : StandsFor kept table
     other Boots is none e = refl
     other (RecordOf j) is none e =
         let d : eqb j.0 m.session.id.0 ≡ false = ap (λ (i : SessionId). eqb j.0 i.0)
-        (sym (its_id kept tables w s (calls.Abort id) w.clock id step_of.Abort refl place next m refl session same))
+        (sym (its_id g))
         ∙ no_record session j [] none in rw d refl
     other (ActiveOf name) is none e = refl
     other (BackupOf name) is none e = refl
@@ -155,7 +182,7 @@ module _ (kept : RowMap) (tables : Tables) (w : World) (s : StandsFor kept table
     own_row : (row : Row) → In row (record_change session ∷ []) → IsRowOf after row
     own_row row (inr i) = absurd i
     own_row row (inl e) =
-        let id_is = its_id kept tables w s (calls.Abort id) w.clock id step_of.Abort refl place next m refl session same in
+        let id_is = its_id g in
         subst (IsRowOf after) e (record {
           key = RecordOf session.id;
           is_key = subst (λ (i : SessionId). IsKey (RecordOf i)) (sym id_is) is_record_of.id;
@@ -169,7 +196,7 @@ module _ (kept : RowMap) (tables : Tables) (w : World) (s : StandsFor kept table
     leads : changed (rows w) (record_change session ∷ files_taken (rows w) (own_target m.session)) ≡ rows after
     leads =
         files_lead w after law
-        (runs_on kept tables w s (calls.Abort id) w.clock id step_of.Abort refl place next m refl session same tt).lawful
+        (runs_on g).lawful
         (record_change session ∷ []) own_row (own_target m.session) own_target_is goes
         (λ k is none e. at_key k ∙ other k is none e)
 
@@ -178,9 +205,8 @@ module _ (kept : RowMap) (tables : Tables) (w : World) (s : StandsFor kept table
         → judged.rows.items ≡ record_change session ∷ files_taken kept (own_target m.session)
         → judged.patch ≡ Session place session → IsJudged judged kept w (calls.Abort id)
     abort_done judged says batch patch =
-        moved_is kept tables w s (calls.Abort id) w.clock id step_of.Abort refl place next m refl session same judged tt
-        says
-        (ap (changed (rows w)) (batch ∙ ap (λ (k : RowMap). record_change session ∷ files_taken k (own_target m.session))
-        s.stored) ∙ leads)
+        moved_is g judged says
+        (ap (changed (rows w)) (batch
+        ∙ ap (λ (k : RowMap). record_change session ∷ files_taken k (own_target m.session)) s.stored) ∙ leads)
         (ap (λ (p : Patch). patched p w.sessions) patch) (ap (λ (p : Patch). clock_after p w.clock) patch)
         (ap (λ (p : Patch). units_after p (units w)) patch)

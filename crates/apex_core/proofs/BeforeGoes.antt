@@ -1,6 +1,7 @@
 -- What a name held before a session that succeeds is kept no more, where all sessions are plain. Callers want
 -- `before_goes`.
-use Rattle.std.proofs.Common.{◌≡◌, ◌≢◌, ℕ, ◌≤◌, ◌<◌, Bool, true, false, List, [], ◌∷◌, length, sym, ap, subst, ◌∙◌, inl, inr, arith, ◌&&◌, ◌||◌}
+use Rattle.std.proofs.Common.{◌≡◌, ◌≢◌, ℕ, ◌≤◌, ◌<◌, Bool, true, false, List, [], ◌∷◌, length, sym, ap, subst, ◌∙◌}
+use Rattle.std.proofs.Common.{inl, inr, arith, ◌&&◌, ◌||◌}
 use Rattle.std.specs.Prelude.{nat_lt}
 use Rattle.std.proofs.lemmas.Bool.{false≢true, false_from_ne_true, and_parts, ltb-true}
 use Rattle.apex_base.specs.declared.numbers.SessionId.{SessionId}
@@ -8,7 +9,8 @@ use Rattle.apex_base.specs.declared.records.Part.{Part}
 use Rattle.apex_base.specs.declared.records.Record.{Record}
 use Rattle.apex_base.specs.declared.records.State.TheVariants as state
 use Rattle.apex_base.specs.declared.records.Target.TheVariants as targets
-use Rattle.apex_base.specs.Held.{is_unfinished, is_undoable, is_standing, is_success, is_available, latest, before, kept, is_module, is_target}
+use Rattle.apex_base.specs.Held.{is_unfinished, is_undoable, is_standing, is_success, is_available, latest, before}
+use Rattle.apex_base.specs.Held.{kept, is_module, is_target}
 use Rattle.apex_base.specs.Members.{In}
 use Rattle.apex_base.specs.Sessions.{names, with_session}
 use Rattle.apex_base.proofs.SessionLemmas.{with_self, with_others, with_any}
@@ -95,8 +97,8 @@ module _ (w v : World) (law : Lawful w) (later : Lawful v) (still : IsSimple v) 
       elim (with_any session w.sessions x (subst (In x) put j)) [
         | inl e ↦ no_undoable x u e
         | inr i ↦ law.alone x r name i h
-            (λ e. no_undoable x u (one_session v.sessions x session later.ids.ascend j self (e ∙ sym same_number))) n named
-            (unfinished_as x.state u) (ap is_unfinished active)
+            (λ e. no_undoable x u (one_session v.sessions x session later.ids.ascend j self (e ∙ sym same_number)))
+            n named (unfinished_as x.state u) (ap is_unfinished active)
       ]
 
   undoable_of : (x : Record) → In x v.sessions → (is_undoable x.state || is_available x.rollback) ≡ true
@@ -135,9 +137,11 @@ module _ (w v : World) (law : Lawful w) (later : Lawful v) (still : IsSimple v) 
         elim way [
           | Own u f ↦
               let (one, p) = owner v later still z there q its id part version is x t n j k (sym f) in
-              false≢true (sym (success_finished z.state success) ∙ ap (λ (x : Record). is_unfinished x.state) (sym one) ∙ u)
+              false≢true (sym (success_finished z.state success)
+              ∙ ap (λ (x : Record). is_unfinished x.state) (sym one) ∙ u)
           | Holds s f ↦
-              let (m, held) = latest_owner v later still z there q its id part version is (λ x. is_standing x.state) t.name n f in
+              let (m, held) = latest_owner v later still z there q its id part version is
+              (λ x. is_standing x.state) t.name n f in
               let has : names t.name session ≡ true =
               ap (λ a. names a session) (sym m ∙ its_name) ∙ ap (names name) same ∙ named in
               let most : session.activation ≤ z.activation = held.most session self (ap is_standing its_state) has in

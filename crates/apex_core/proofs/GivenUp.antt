@@ -1,33 +1,30 @@
--- What a success gives up in a simple world. Callers want `held_target_of`, `held_by`, `backup_there`,
+-- What a success gives up in a simple world. Callers want `held_target_of`, `held_by`,
 -- `none_outdated`, `no_restore` and `gives`.
-use Rattle.std.proofs.Common.{◌≡◌, ◌≤◌, ℕ, Bool, true, false, cond, List, [], ◌∷◌, length, Option, Some, None, sym, ap, subst, ◌∙◌, refl, inl, inr, arith, ◌&&◌, ◌||◌}
+use Rattle.std.proofs.Common.{◌≡◌, ◌≤◌, ℕ, Bool, true, false, cond, List, [], ◌∷◌, length, Option, Some, None, sym}
+use Rattle.std.proofs.Common.{ap, subst, ◌∙◌, refl, inl, inr, ◌&&◌, ◌||◌}
 use Rattle.std.specs.Prelude.{nat_lt, option_and_then, if◌then◌else◌}
 use Rattle.std.specs.List.{list_any}
-use Rattle.std.specs.Str.{bytes_eq}
 use Rattle.std.proofs.lemmas.Bool.{false≢true, false_from_ne_true, and_parts}
 use Rattle.apex_base.specs.declared.numbers.SessionId.{SessionId}
 use Rattle.apex_base.specs.declared.records.Kind.{Kind}
 use Rattle.apex_base.specs.declared.records.Part.{Part}
 use Rattle.apex_base.specs.declared.records.Record.{Record}
 use Rattle.apex_base.specs.Held.{is_success, is_undoable, is_available, is_module, before}
-use Rattle.apex_base.specs.Keys.{BackupOf, PreRestoreOf, key_text}
+use Rattle.apex_base.specs.Keys.{PreRestoreOf}
 use Rattle.apex_base.specs.Members.{In}
 use Rattle.apex_base.specs.Sessions.{shares, session_of}
 use Rattle.apex_base.specs.Spelling.{IsPart, IsTarget}
 use Rattle.apex_base.proofs.MemberLemmas.{any_in, each_in}
 use Rattle.apex_base.proofs.SessionLemmas.{of_found}
-use Rattle.row_map.specs.Room.{in_batch}
 use Rattle.apex_world.specs.Lawful.{Lawful}
 use Rattle.apex_world.specs.Rows.{row_at, undoes, earlier, has_pre_restore}
 use Rattle.apex_world.specs.RowsAfter.{passes}
 use Rattle.apex_world.specs.RowsMoved.{outdates, gives_up_file, goes_back_to}
 use Rattle.apex_world.specs.World.{World}
 use Rattle.apex_world.proofs.LatestLemmas.{named_by, latest_is}
-use Rattle.apex_world.proofs.WorldRows.{same_name}
 use Rattle.apex_core.specs.Core.{IsSimple}
-use Rattle.apex_core.specs.Ending.{held_before, backups_taken}
-use Rattle.apex_core.specs.Taken.{deletion, first_of}
-use Rattle.apex_core.proofs.TakenFiles.{in_batch_in}
+use Rattle.apex_core.specs.Ending.{held_before}
+use Rattle.apex_core.specs.Taken.{first_of}
 use Rattle.apex_core.proofs.Moved.{one_target, or_false}
 
 -- Targets of a world
@@ -57,16 +54,6 @@ pub held_by : (ss : List Record) (r : Record) (ps : List Part) (id : SessionId) 
     → (p : Part) × In p ps × (is_module id part (before ss r p.name) ≡ true)
 held_by ss r [] id part m = absurd (cc)
 held_by ss r (p ∷ ps) id part m = (p, inl refl, m)
-
--- a session that names it has the row of what it held before in the batch
-pub backup_there : (name : List ℕ) (ps : List Part) → length ps ≤ 1 → list_any (λ p. bytes_eq p.name name) ps ≡ true
-    → in_batch (key_text (BackupOf name)) (backups_taken ps) ≡ true
-backup_there name [] low e = absurd (cc)
-backup_there name (p ∷ []) low e =
-    let same : p.name ≡ name = same_name p.name name (sym (or_false (bytes_eq p.name name)) ∙ e) in
-    ap (λ (a : List ℕ). in_batch (key_text (BackupOf a)) (backups_taken (p ∷ []))) (sym same)
-    ∙ in_batch_in (deletion (key_text (BackupOf p.name))) (backups_taken (p ∷ [])) (inl refl)
-backup_there name (p ∷ q ∷ ps) low e = absurd (omega (arith, low))
 
 module _ (w : World) (simple : IsSimple w) (r : Record) where
   none_available : (x : Record) → In x w.sessions → outdates r x ≡ false

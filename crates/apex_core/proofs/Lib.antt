@@ -12,8 +12,11 @@ pub mod Moved
 pub mod NewRows
 pub mod Performed
 pub mod Places
+pub mod RowRange
 pub mod Search
 pub mod Simple
+pub mod SuccessBatches
+pub mod SuccessStates
 pub mod Successes
 pub mod TakenBatches
 pub mod TakenFiles

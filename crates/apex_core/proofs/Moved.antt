@@ -1,6 +1,7 @@
--- Calls that move one session of a simple world. Callers want `refused_is`, `moved_is`, `is_found`, `record_is`,
--- `no_record`, `read_is`, `moved_from`, `has_room_moved`, `one_target` and `one_part`.
-use Rattle.std.proofs.Common.{◌≡◌, ◌≤◌, ℕ, Bool, true, false, eqb, eqb-true, List, [], ◌∷◌, map, length, slice_set, get_or, Option, Some, None, sym, ap, subst, ◌∙◌, refl, inl, inr, arith, ◌||◌}
+-- Calls that move one session of a simple world. Callers want `Moving` and the lemmas on it, `refused_is`, `is_found`,
+-- `record_is`, `no_record`, `read_is`, `moved_from`, `has_room_moved`, `one_target` and `one_part`.
+use Rattle.std.proofs.Common.{◌≡◌, ◌≤◌, ℕ, Bool, true, false, eqb, eqb-true, List, [], ◌∷◌, map, length, slice_set}
+use Rattle.std.proofs.Common.{get_or, Option, Some, None, sym, ap, subst, ◌∙◌, refl, inl, inr, arith, ◌||◌}
 use Rattle.std.proofs.lemmas.Bool.{false≢true}
 use Rattle.std.proofs.lemmas.Option.{slice_get_read}
 use Rattle.apex_base.specs.declared.moves.Move.{Move}
@@ -103,81 +104,111 @@ one_part w law simple r i = elim (law.parts r i).count [
   | inr same ↦ few_if r.children r.parts (simple.childless r i) same
 ]
 
-module _ (kept : RowMap) (tables : Tables) (w : World) (s : StandsFor kept tables w) where
-  module _ (call : Call) (clock : ℕ) (id : SessionId) (by : Move) (call_is : step w call ≡ move_session w clock id by) where
-    -- a call that is refused
-    pub refused_is : (judged : Judged) (why : Refusal)
-        → ((v : World) (clock : ℕ) → tables.sessions.items ≡ v.sessions → move_session v clock id by ≡ refused v why)
-        → judged.reply ≡ reply.Refused why → judged.rows.items ≡ [] → judged.patch ≡ Nothing
-        → IsJudged judged kept w call
-    refused_is judged why refuses says none nothing = quiet_is kept tables w s judged call (refused w why)
-        (call_is ∙ refuses w clock s.sessions) refl says none nothing
+-- A call that is refused
 
-    module _ (place : ℕ) (next : State) (m : Moves tables.sessions.items id by place next) where
-      pub is_found : session_of w.sessions id ≡ Some m.session
-      is_found = found_in kept tables w s id (Some m.session) m.found
+pub refused_is : (kept : RowMap) (tables : Tables) (w : World) (s : StandsFor kept tables w) (call : Call) (clock : ℕ)
+    (id : SessionId) (by : Move) → step w call ≡ move_session w clock id by → (judged : Judged) (why : Refusal)
+    → ((v : World) (clock : ℕ) → tables.sessions.items ≡ v.sessions → move_session v clock id by ≡ refused v why)
+    → judged.reply ≡ reply.Refused why → judged.rows.items ≡ [] → judged.patch ≡ Nothing → IsJudged judged kept w call
+refused_is kept tables w s call clock id by called judged why refuses says none nothing =
+    quiet_is kept tables w s judged call (refused w why) (called ∙ refuses w clock s.sessions) refl says none nothing
 
-      pub is_among : In m.session w.sessions
-      is_among = (of_found w.sessions id m.session is_found).0
+-- A call that moves a session
 
-      pub record_is : IsRecord m.session
-      record_is = is_record kept tables w s id m.session m.found
+module _ (kept : RowMap) (tables : Tables) (w : World) (s : StandsFor kept tables w) (id : SessionId) (by : Move)
+    (place : ℕ) (next : State) (m : Moves tables.sessions.items id by place next) where
+  pub is_found : session_of w.sessions id ≡ Some m.session
+  is_found = found_in kept tables w s id (Some m.session) m.found
 
-      -- its record has room in another state too
-      pub has_room_moved : (session : Record)
-          → session ≡ record m.session { state = next; rollback = m.session.rollback } → HasRoom session
-      has_room_moved session same = room_in m.session session next m.session.rollback record_is same
+  pub is_among : In m.session w.sessions
+  is_among = (of_found w.sessions id m.session is_found).0
 
-      module _ (stays : rollback_after by None ≡ None) (session : Record)
-          (same : session ≡ record m.session { state = next; rollback = m.session.rollback }) where
-        abbrev after : World
-        after = record w { sessions = with_session session w.sessions; clock = clock }
+  pub record_is : IsRecord m.session
+  record_is = is_record kept tables w s id m.session m.found
 
-        pub its_id : session.id ≡ m.session.id
-        its_id = ap (λ (r : Record). r.id) same
+  -- its record has room in another state too
+  pub has_room_moved : (session : Record)
+      → session ≡ record m.session { state = next; rollback = m.session.rollback } → HasRoom session
+  has_room_moved session same = room_in m.session session next m.session.rollback record_is same
 
-        own_rollback : rollback_after by m.session.rollback ≡ m.session.rollback
-        own_rollback =
-            let none = (s.simple.plain.sessions m.session is_among).rollback in
-            ap (rollback_after by) none ∙ stays ∙ sym none
+-- the call, the session where it stands, and what it becomes
+pub record Moving : Type 0 where
+  pub kept : RowMap
+  pub tables : Tables
+  pub w : World
+  pub stands : StandsFor kept tables w
+  pub call : Call
+  pub is_call : IsCall call
+  pub clock : ℕ
+  pub id : SessionId
+  pub by : Move
+  pub called : step w call ≡ move_session w clock id by
+  pub stays : rollback_after by None ≡ None
+  pub place : ℕ
+  pub next : State
+  pub moves : Moves tables.sessions.items id by place next
+  pub session : Record
+  pub same : session ≡ record moves.session { state = next; rollback = moves.session.rollback }
 
-        pub session_is : record m.session { state = next; rollback = rollback_after by m.session.rollback } ≡ session
-        session_is = ap (λ (o : Option RollbackState). record m.session { state = next; rollback = o }) own_rollback
-            ∙ sym same
+-- the world that the call leads to
+abbrev pub left_by : Moving → World
+left_by g = record g.w { sessions = with_session g.session g.w.sessions; clock = g.clock }
 
-        pub step_is : step w call ≡ done after
-        step_is =
-            call_is ∙ ap (move_found w clock id by) is_found
-            ∙ ap (move_to w clock m.session by) m.goes
-            ∙ ap (λ (r : Record). done (record w { sessions = with_session r w.sessions; clock = clock })) session_is
+module _ (g : Moving) where
+  its_place : session_of g.w.sessions g.id ≡ Some g.moves.session
+  its_place = is_found g.kept g.tables g.w g.stands g.id g.by g.place g.next g.moves
 
-        put_is : with_session session tables.sessions.items ≡ slice_set tables.sessions.items place session
-        put_is = m.put session (its_id ∙ same_id m.session.id id (of_found w.sessions id m.session is_found).1)
+  pub its_id : g.session.id ≡ g.moves.session.id
+  its_id = ap (λ (r : Record). r.id) g.same
 
-        pub runs_on : IsCall call → Running after
-        runs_on is = subst (λ (y : Stepped). Running y.world) step_is (calls_run w s.running call is)
+  own_rollback : rollback_after g.by g.moves.session.rollback ≡ g.moves.session.rollback
+  own_rollback =
+      let none = (g.stands.simple.plain.sessions g.moves.session
+      (of_found g.w.sessions g.id g.moves.session its_place).0).rollback in
+      ap (rollback_after g.by) none ∙ g.stays ∙ sym none
 
-        pub stays_simple : IsSimple after
-        stays_simple = subst (λ (y : Stepped). IsSimple y.world) (sym call_is ∙ step_is) (move_simple w s.simple clock id by)
+  pub session_is : record g.moves.session { state = g.next; rollback = rollback_after g.by g.moves.session.rollback }
+      ≡ g.session
+  session_is =
+      ap (λ (o : Option RollbackState). record g.moves.session { state = g.next; rollback = o }) own_rollback
+      ∙ sym g.same
 
-        -- a call that moves a session
-        pub moved_is : (judged : Judged) → IsCall call → judged.reply ≡ reply.Done
-            → changed (rows w) judged.rows.items ≡ rows after
-            → patched judged.patch w.sessions ≡ slice_set w.sessions place session
-            → clock_after judged.patch w.clock ≡ clock → units_after judged.patch (units w) ≡ units w
-            → IsJudged judged kept w call
-        moved_is judged is says leads puts rises counts = record {
-          reply = says ∙ sym (ap (λ (y : Stepped). y.reply) step_is);
-          running = calls_run w s.running call is;
-          simple = subst (λ (y : Stepped). IsSimple y.world) (sym call_is) (move_simple w s.simple clock id by);
-          stored = ap (λ (k : RowMap). changed k judged.rows.items) s.stored ∙ leads
-              ∙ sym (ap (λ (y : Stepped). rows y.world) step_is);
-          sessions = puts
-              ∙ sym (subst (λ (ss : List Record). with_session session ss ≡ slice_set ss place session) s.sessions put_is)
-              ∙ sym (ap (λ (y : Stepped). y.world.sessions) step_is);
-          clock = rises ∙ sym (ap (λ (y : Stepped). y.world.clock) step_is);
-          units = counts ∙ sym (move_units w s.simple clock id by)
-              ∙ sym (ap (λ (y : Stepped). units y.world) call_is);
-          rest = subst (λ (y : Stepped). RunsOn w y.world) (sym step_is)
-              (record { scale = refl; image = refl; active = refl });
-        }
+  pub step_is : step g.w g.call ≡ done (left_by g)
+  step_is =
+      g.called ∙ ap (move_found g.w g.clock g.id g.by) its_place
+      ∙ ap (move_to g.w g.clock g.moves.session g.by) g.moves.goes
+      ∙ ap (λ (r : Record). done (record g.w { sessions = with_session r g.w.sessions; clock = g.clock })) session_is
+
+  put_is : with_session g.session g.tables.sessions.items ≡ slice_set g.tables.sessions.items g.place g.session
+  put_is = g.moves.put g.session
+      (its_id ∙ same_id g.moves.session.id g.id (of_found g.w.sessions g.id g.moves.session its_place).1)
+
+  pub runs_on : Running (left_by g)
+  runs_on = subst (λ (y : Stepped). Running y.world) step_is (calls_run g.w g.stands.running g.call g.is_call)
+
+  pub stays_simple : IsSimple (left_by g)
+  stays_simple = subst (λ (y : Stepped). IsSimple y.world) (sym g.called ∙ step_is)
+      (move_simple g.w g.stands.simple g.clock g.id g.by)
+
+  -- what it judges
+  pub moved_is : (judged : Judged) → judged.reply ≡ reply.Done
+      → changed (rows g.w) judged.rows.items ≡ rows (left_by g)
+      → patched judged.patch g.w.sessions ≡ slice_set g.w.sessions g.place g.session
+      → clock_after judged.patch g.w.clock ≡ g.clock → units_after judged.patch (units g.w) ≡ units g.w
+      → IsJudged judged g.kept g.w g.call
+  moved_is judged says leads puts rises counts = record {
+    reply = says ∙ sym (ap (λ (y : Stepped). y.reply) step_is);
+    running = calls_run g.w g.stands.running g.call g.is_call;
+    simple = subst (λ (y : Stepped). IsSimple y.world) (sym step_is) stays_simple;
+    stored = ap (λ (k : RowMap). changed k judged.rows.items) g.stands.stored ∙ leads
+        ∙ sym (ap (λ (y : Stepped). rows y.world) step_is);
+    sessions = puts
+        ∙ sym (subst (λ (ss : List Record). with_session g.session ss ≡ slice_set ss g.place g.session)
+        g.stands.sessions put_is)
+        ∙ sym (ap (λ (y : Stepped). y.world.sessions) step_is);
+    clock = rises ∙ sym (ap (λ (y : Stepped). y.world.clock) step_is);
+    units = counts ∙ sym (move_units g.w g.stands.simple g.clock g.id g.by)
+        ∙ sym (ap (λ (y : Stepped). units y.world) g.called);
+    rest = subst (λ (y : Stepped). RunsOn g.w y.world) (sym step_is)
+        (record { scale = refl; image = refl; active = refl });
+  }

@@ -1,11 +1,8 @@
--- What a success of a simple world judges. Callers want `success_again`, `success_done`, `success_ascends`,
--- `success_room`, `held_numbered` and `time_is`.
-use Rattle.std.proofs.Common.{◌≡◌, ◌≤◌, ℕ, Bool, true, false, cond, eqb, eq-eqb, List, [], ◌∷◌, ◌++◌, length, max, Option, Some, None, sym, ap, subst, ◌∙◌, refl, inl, inr, arith}
+-- What a success of a simple world judges. Callers want `success_again`, `success_done`, `success_room`
+-- and `held_numbered`.
+use Rattle.std.proofs.Common.{◌≡◌, ◌≤◌, ℕ, Bool, true, false, cond, eqb, eq-eqb, List, [], ◌∷◌, ◌++◌, length, max}
+use Rattle.std.proofs.Common.{Option, Some, None, sym, ap, subst, ◌∙◌, refl, inl, inr}
 use Rattle.std.specs.Prelude.{not}
-use Rattle.std.specs.Cmp.Lexicographic.{slice_cmp}
-use Rattle.std.specs.List.Sorted.{IsStrictlySortedBy}
-use Rattle.std.specs.Ordering.{nat_cmp}
-use Rattle.std.proofs.Math.Nat.{le-max_right}
 use Rattle.std.proofs.lemmas.Bool.{false≢true}
 use Rattle.apex_base.specs.declared.moves.Move.TheVariants as step_of
 use Rattle.apex_base.specs.declared.numbers.SessionId.{SessionId}
@@ -16,22 +13,21 @@ use Rattle.apex_base.specs.declared.records.RollbackState.TheVariants.{Available
 use Rattle.apex_base.specs.declared.records.State.{State}
 use Rattle.apex_base.specs.declared.records.State.TheVariants as state
 use Rattle.apex_base.specs.Held.{is_success, is_module, is_target, kept}
-use Rattle.apex_base.specs.Keys.{Key, Boots, RecordOf, ActiveOf, BackupOf, FileOf, DataOf, SnapshotOf, PreRestoreOf, WatchOf, IsKey, RowMap, key_text}
+use Rattle.apex_base.specs.Keys.{Key, Boots, RecordOf, ActiveOf, BackupOf, FileOf, DataOf, SnapshotOf, PreRestoreOf}
+use Rattle.apex_base.specs.Keys.{WatchOf, IsKey, RowMap, key_text}
 use Rattle.apex_base.specs.Members.{In}
-use Rattle.apex_base.specs.Moves.{moved}
 use Rattle.apex_base.specs.Ranges.{IsMillis}
 use Rattle.apex_base.specs.Rollbacks.{is_enabling}
 use Rattle.apex_base.specs.Sessions.{names, session_of, with_session}
 use Rattle.apex_base.specs.Spelling.{IsTarget, record_text}
 use Rattle.apex_base.proofs.SessionLemmas.{of_found, with_found, with_self}
 use Rattle.row_codec.specs.declared.batch.Row.{Row}
-use Rattle.row_codec.specs.Batch.{keys_of}
 use Rattle.row_map.specs.Rows.{changed}
 use Rattle.row_map.specs.Room.{in_batch}
 use Rattle.session_record.specs.Room.{HasPartNumber, HasRoom}
 use Rattle.apex_world.specs.declared.calls.Call.TheVariants as calls
 use Rattle.apex_world.specs.declared.calls.Reply.TheVariants as reply
-use Rattle.apex_world.specs.Advance.{move_session, after_success, success_to, success_found}
+use Rattle.apex_world.specs.Advance.{after_success, success_to, success_found}
 use Rattle.apex_world.specs.Lawful.{Lawful}
 use Rattle.apex_world.specs.Limits.{units}
 use Rattle.apex_world.specs.Rows.{rows, row_at}
@@ -54,95 +50,26 @@ use Rattle.apex_core.specs.Taken.{files_taken}
 use Rattle.apex_core.proofs.Aborts.{numbered}
 use Rattle.apex_core.proofs.Batches.{IsRowOf, batch_leads}
 use Rattle.apex_core.proofs.BeforeGoes.{before_goes}
-use Rattle.apex_core.proofs.GivenUp.{held_target_of, held_by, backup_there, none_outdated, no_restore, gives}
+use Rattle.apex_core.proofs.GivenUp.{held_target_of, held_by, none_outdated, no_restore, gives}
 use Rattle.apex_core.proofs.TakenBatches.{of_module, files_lead}
-use Rattle.apex_core.proofs.TakenFiles.{IsBelowFiles, all_ascend, not_second}
-use Rattle.apex_core.proofs.Moved.{no_record, one_part, is_found, its_id, step_is, runs_on, stays_simple, moved_is, has_room_moved}
-
--- a session that can be marked successful is ACTIVATED, or SUCCESS already
-success_state : (a b : State) → moved a step_of.Success ≡ Some b → b ≡ state.Success
-success_state state.Verified b e = absurd (cc)
-success_state state.Staged b e = absurd (cc)
-success_state state.Activated b e = cc
-success_state state.ActivationFailed b e = absurd (cc)
-success_state state.Success b e = cc
-success_state state.RevertInProgress b e = absurd (cc)
-success_state state.Reverted b e = absurd (cc)
-success_state state.Aborted b e = absurd (cc)
-
-activated_state : (a b : State) → moved a step_of.Success ≡ Some b → is_success a ≡ false → a ≡ state.Activated
-activated_state state.Verified b e f = absurd (cc)
-activated_state state.Staged b e f = absurd (cc)
-activated_state state.Activated b e f = refl
-activated_state state.ActivationFailed b e f = absurd (cc)
-activated_state state.Success b e f = absurd (cc)
-activated_state state.RevertInProgress b e f = absurd (cc)
-activated_state state.Reverted b e f = absurd (cc)
-activated_state state.Aborted b e f = absurd (cc)
-
-is_success_state : (a : State) → is_success a ≡ true → a ≡ state.Success
-is_success_state state.Verified e = absurd (cc)
-is_success_state state.Staged e = absurd (cc)
-is_success_state state.Activated e = absurd (cc)
-is_success_state state.ActivationFailed e = absurd (cc)
-is_success_state state.Success e = refl
-is_success_state state.RevertInProgress e = absurd (cc)
-is_success_state state.Reverted e = absurd (cc)
-is_success_state state.Aborted e = absurd (cc)
-
--- a moment that is at most another is one
-pub time_is : (a b clock : ℕ) → clock ≡ max a b → IsMillis clock → IsMillis b
-time_is a b clock e is = omega (arith, le-max_right a b, e, is)
-
--- The batch ascends
-
-head_ascends : (r : Record) (ps : List Part)
-    → IsStrictlySortedBy (slice_cmp nat_cmp) (keys_of (record_change r ∷ backups_taken ps))
-unfolding IsStrictlySortedBy
-head_ascends r [] = (tt, tt)
-head_ascends r (p ∷ ps) = ((refl, tt), (tt, tt))
-
-head_below : (r : Record) (ps : List Part) (row : Row) → In row (record_change r ∷ backups_taken ps)
-    → IsBelowFiles row.key
-head_below r ps row (inl e) rest = ap (λ (x : Row). slice_cmp nat_cmp x.key (5 ∷ rest)) (sym e)
-head_below r [] row (inr i) rest = absurd i
-head_below r (p ∷ ps) row (inr (inl e)) rest = ap (λ (x : Row). slice_cmp nat_cmp x.key (5 ∷ rest)) (sym e)
-head_below r (p ∷ ps) row (inr (inr i)) rest = absurd i
-
-pub success_ascends : (m : RowMap) (sessions : List Record) (r : Record)
-    → IsStrictlySortedBy (slice_cmp nat_cmp) (keys_of (success_batch m sessions r))
-success_ascends m sessions r =
-    all_ascend m (held_before sessions r) (record_change r ∷ backups_taken r.parts) (head_ascends r r.parts)
-    (head_below r r.parts)
-
--- The rows of another clock
-
-other_clock : (w : World) (clock : ℕ) (k : Key) → row_at (record w { clock = clock }) k ≡ row_at w k
-other_clock w clock Boots = refl
-other_clock w clock (RecordOf id) = refl
-other_clock w clock (ActiveOf name) = refl
-other_clock w clock (BackupOf name) = refl
-other_clock w clock (FileOf id part path) = refl
-other_clock w clock (DataOf name key) = refl
-other_clock w clock (SnapshotOf id name key) = refl
-other_clock w clock (PreRestoreOf id name key) = refl
-other_clock w clock (WatchOf observer name) = refl
+use Rattle.apex_core.proofs.SuccessBatches.{backup_there}
+use Rattle.apex_core.proofs.SuccessStates.{success_state, activated_state, is_success_state, other_clock}
+use Rattle.apex_core.proofs.TakenFiles.{not_second}
+use Rattle.apex_core.proofs.Moved.{Moving, left_by, no_record, one_part, is_found, its_id, step_is, runs_on}
+use Rattle.apex_core.proofs.Moved.{stays_simple, moved_is, has_room_moved}
 
 cond_none : (b : Bool) (o : Option (List ℕ)) → o ≡ None → cond b None o ≡ o
 cond_none true o e = sym e
 cond_none false o e = refl
 
-module _ (kept_rows : RowMap) (tables : Tables) (w : World) (s : StandsFor kept_rows tables w) (time : ℕ)
-    (is_time : IsMillis time) (id : SessionId) (place : ℕ) (next : State)
-    (m : Moves tables.sessions.items id step_of.Success place next) where
-  call_is : step w (calls.Success time id) ≡ move_session w (max w.clock time) id step_of.Success
-  call_is = success_plain w s.simple.plain time id
-
+module _ (kept_rows : RowMap) (tables : Tables) (w : World) (s : StandsFor kept_rows tables w) (id : SessionId)
+    (place : ℕ) (next : State) (m : Moves tables.sessions.items id step_of.Success place next) (session : Record)
+    (same : session ≡ record m.session { state = next; rollback = m.session.rollback }) where
   law : Lawful w
   law = s.running.lawful
 
   found_it : session_of w.sessions id ≡ Some m.session
-  found_it = is_found kept_rows tables w s (calls.Success time id) (max w.clock time) id step_of.Success call_is place next m
+  found_it = is_found kept_rows tables w s id step_of.Success place next m
 
   among : In m.session w.sessions
   among = (of_found w.sessions id m.session found_it).0
@@ -153,42 +80,56 @@ module _ (kept_rows : RowMap) (tables : Tables) (w : World) (s : StandsFor kept_
   held_is : IsTarget (held_before w.sessions m.session)
   held_is = held_target_of w law m.session m.session.parts
 
-  module _ (session : Record) (same : session ≡ record m.session { state = next; rollback = m.session.rollback }) where
-    pub success_room : HasRoom session
-    success_room = has_room_moved kept_rows tables w s (calls.Success time id) (max w.clock time) id step_of.Success
-        call_is place next m session same
+  pub success_room : HasRoom session
+  success_room = has_room_moved kept_rows tables w s id step_of.Success place next m session same
 
-    pub held_numbered : HasPartNumber (held_before tables.sessions.items session)
-    held_numbered =
-        subst (λ (ss : List Record). HasPartNumber (held_before ss session)) (sym s.sessions)
-        (subst (λ (x : Record). HasPartNumber (held_before w.sessions x)) (sym same)
-        (numbered (held_before w.sessions m.session) held_is))
+  pub held_numbered : HasPartNumber (held_before tables.sessions.items session)
+  held_numbered =
+      subst (λ (ss : List Record). HasPartNumber (held_before ss session)) (sym s.sessions)
+      (subst (λ (x : Record). HasPartNumber (held_before w.sessions x)) (sym same)
+      (numbered (held_before w.sessions m.session) held_is))
+
+  module _ (time : ℕ) (is_time : IsMillis time) where
+    abbrev g : Moving
+    g = record {
+      kept = kept_rows;
+      tables = tables;
+      w = w;
+      stands = s;
+      call = calls.Success time id;
+      is_call = is_time;
+      clock = max w.clock time;
+      id = id;
+      by = step_of.Success;
+      called = success_plain w s.simple.plain time id;
+      stays = refl;
+      place = place;
+      next = next;
+      moves = m;
+      session = session;
+      same = same;
+    }
 
     abbrev after : World
-    after = record w { sessions = with_session session w.sessions; clock = max w.clock time }
+    after = left_by g
 
     called : step w (calls.Success time id) ≡ done after
-    called = step_is kept_rows tables w s (calls.Success time id) (max w.clock time) id step_of.Success call_is place next
-        m refl session same
+    called = step_is g
 
     later : Lawful after
-    later = (runs_on kept_rows tables w s (calls.Success time id) (max w.clock time) id step_of.Success call_is place next
-        m refl session same is_time).lawful
+    later = (runs_on g).lawful
 
     still : IsSimple after
-    still = stays_simple kept_rows tables w s (calls.Success time id) (max w.clock time) id step_of.Success call_is place
-        next m refl session same
+    still = stays_simple g
 
     id_is : session.id ≡ m.session.id
-    id_is = its_id kept_rows tables w s (calls.Success time id) (max w.clock time) id step_of.Success call_is place next m
-        refl session same
+    id_is = its_id g
 
     judged_is : (judged : Judged) (clock : ℕ) → judged.reply ≡ reply.Done
         → changed (rows w) judged.rows.items ≡ rows after → judged.patch ≡ Success place session clock
         → clock ≡ max tables.clock time → IsJudged judged kept_rows w (calls.Success time id)
     judged_is judged clock says leads patch later_one =
-        moved_is kept_rows tables w s (calls.Success time id) (max w.clock time) id step_of.Success call_is place next m refl
-        session same judged is_time says leads
+        moved_is g judged says leads
         (ap (λ (p : Patch). patched p w.sessions) patch)
         (ap (λ (p : Patch). clock_after p w.clock) patch ∙ later_one ∙ ap (λ n. max n time) s.clock)
         (ap (λ (p : Patch). units_after p (units w)) patch)
@@ -239,7 +180,8 @@ module _ (kept_rows : RowMap) (tables : Tables) (w : World) (s : StandsFor kept_
           before_goes w after law later still m.session session among active succeeded refl p.name
           (names_own m.session p i) sid part has in
           at_key (FileOf sid part path)
-          ∙ ap (λ b. freed b (after_success (max w.clock time) m.session w.sessions) sid part (row_at w (FileOf sid part path)))
+          ∙ ap (λ b. freed b (after_success (max w.clock time) m.session w.sessions) sid part
+          (row_at w (FileOf sid part path)))
           (gives w s.simple m.session low sid part ∙ e)
           ∙ ap (λ b. cond (not b) None (row_at w (FileOf sid part path)))
           (ap (λ ss. is_target (kept ss) sid part) sessions_are ∙ no_more)
@@ -266,13 +208,15 @@ module _ (kept_rows : RowMap) (tables : Tables) (w : World) (s : StandsFor kept_
       other (ActiveOf name) is none e = refl
       other (BackupOf name) is none e = backup_if name (names name m.session) refl none
       other (FileOf sid part path) is none e =
-          ap (λ b. freed b (after_success (max w.clock time) m.session w.sessions) sid part (row_at w (FileOf sid part path)))
+          ap (λ b. freed b (after_success (max w.clock time) m.session w.sessions) sid part
+          (row_at w (FileOf sid part path)))
           (gives w s.simple m.session low sid part ∙ e)
       other (DataOf name key) is none e = refl
       other (SnapshotOf j name key) is none e =
           ap (λ b. cond b None (row_at w (SnapshotOf j name key))) (none_outdated w s.simple m.session j)
       other (PreRestoreOf j name key) is none e =
-          cond_none (eqb j.0 m.session.id.0) (row_at w (PreRestoreOf j name key)) (no_restore w s.simple m.session j name key)
+          cond_none (eqb j.0 m.session.id.0) (row_at w (PreRestoreOf j name key))
+          (no_restore w s.simple m.session j name key)
       other (WatchOf observer name) is none e = refl
 
       own_row : IsRowOf after (record_change session)

@@ -1,11 +1,13 @@
 -- Batches that delete a module's files. Callers want `of_module` and `files_lead`.
-use Rattle.std.proofs.Common.{◌≡◌, ℕ, Bool, true, false, eqb, eq-eqb, eqb-true, List, [], ◌++◌, drop, None, sym, ap, ◌∙◌, refl, inl, inr}
+use Rattle.std.proofs.Common.{◌≡◌, ℕ, Bool, true, false, eqb, eq-eqb, eqb-true, List, [], ◌++◌, drop, None, sym, ap}
+use Rattle.std.proofs.Common.{◌∙◌, refl, inl, inr}
 use Rattle.std.proofs.lemmas.Bool.{and_parts, and_from}
 use Rattle.apex_base.specs.declared.numbers.SessionId.{SessionId}
 use Rattle.apex_base.specs.declared.records.Target.{Target}
 use Rattle.apex_base.specs.declared.records.Target.TheVariants.{Preinstalled, Module}
 use Rattle.apex_base.specs.Held.{is_module}
-use Rattle.apex_base.specs.Keys.{Key, Boots, RecordOf, ActiveOf, BackupOf, FileOf, DataOf, SnapshotOf, PreRestoreOf, WatchOf, IsKey, key_text, file_front}
+use Rattle.apex_base.specs.Keys.{Key, Boots, RecordOf, ActiveOf, BackupOf, FileOf, DataOf, SnapshotOf, PreRestoreOf}
+use Rattle.apex_base.specs.Keys.{WatchOf, IsKey, key_text, file_front}
 use Rattle.apex_base.specs.Members.{In}
 use Rattle.apex_base.specs.Spelling.{IsTarget}
 use Rattle.apex_base.proofs.MemberLemmas.{in_append}
@@ -49,12 +51,14 @@ module _ (w v : World) (before : Lawful w) (after : Lawful v) (head : List Row)
         key = FileOf session part (drop 6 row.key);
         is_key = is.0;
         spelled = begun;
-        value = ap (λ (r : Row). r.value) goes ∙ sym (gone session part (drop 6 row.key) (own_module session part version));
+        value = ap (λ (r : Row). r.value) goes
+            ∙ sym (gone session part (drop 6 row.key) (own_module session part version));
       }
 
   -- where one of its files isn't taken, it wasn't there
   was_gone : (t : Target) (session : SessionId) (part : ℕ) (path : List ℕ) → IsKey (FileOf session part path)
-      → is_module session part t ≡ true → in_batch (key_text (FileOf session part path)) (files_taken (rows w) t) ≡ false
+      → is_module session part t ≡ true
+      → in_batch (key_text (FileOf session part path)) (files_taken (rows w) t) ≡ false
       → row_at w (FileOf session part path) ≡ None
   was_gone Preinstalled session part path is m none = absurd (cc)
   was_gone (Module s p version) session part path is m none =
@@ -66,7 +70,8 @@ module _ (w v : World) (before : Lawful w) (after : Lawful v) (head : List Row)
       ∙ not_taken (file_front s p []) (rows w) (file_front session part path) path (sym same) none
 
   module _ (t : Target) (is : IsTarget t) (gone : Gone t)
-      (others : (k : Key) → IsKey k → in_batch (key_text k) head ≡ false → of_module t k ≡ false → row_at v k ≡ row_at w k) where
+      (others : (k : Key) → IsKey k → in_batch (key_text k) head ≡ false → of_module t k ≡ false
+      → row_at v k ≡ row_at w k) where
     batch : List Row
     batch = head ++ files_taken (rows w) t
 
@@ -76,7 +81,8 @@ module _ (w v : World) (before : Lawful w) (after : Lawful v) (head : List Row)
     other_if k false e i none = others k i (not_first (key_text k) head (files_taken (rows w) t) none) e
     other_if (FileOf session part path) true e i none =
         gone session part path e
-        ∙ sym (was_gone t session part path i e (not_second (key_text (FileOf session part path)) head (files_taken (rows w) t) none))
+        ∙ sym (was_gone t session part path i e
+        (not_second (key_text (FileOf session part path)) head (files_taken (rows w) t) none))
     other_if Boots true e i none = absurd (cc)
     other_if (RecordOf id) true e i none = absurd (cc)
     other_if (ActiveOf name) true e i none = absurd (cc)

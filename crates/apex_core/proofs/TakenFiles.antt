@@ -1,5 +1,7 @@
--- The rows that go with a module. Callers want `taken_in`, `not_taken`, `files_ascend`, `module_file` and `in_batch-append`.
-use Rattle.std.proofs.Common.{◌≡◌, ℕ, Bool, true, false, cond, eqb, List, [], ◌∷◌, ◌++◌, map, length, drop, Option, Some, None, sym, ap, subst, ◌∙◌, refl, inl, inr, ◌||◌}
+-- The rows that go with a module. Callers want `taken_in`, `not_taken`, `not_first`, `not_second`, `in_batch_in`,
+-- `all_ascend`, `IsBelowFiles` and `ascend`.
+use Rattle.std.proofs.Common.{◌≡◌, ℕ, Bool, true, false, cond, eqb, List, [], ◌∷◌, ◌++◌, map, length, drop, Option}
+use Rattle.std.proofs.Common.{Some, None, sym, ap, subst, ◌∙◌, refl, inl, inr, ◌||◌}
 use Rattle.std.specs.Cmp.Lexicographic.{slice_cmp}
 use Rattle.std.specs.declared.cmp.Ordering.{Ordering}
 use Rattle.std.specs.declared.cmp.Ordering.TheVariants.{Less, Equal, Greater}
@@ -121,7 +123,7 @@ below : (key : List ℕ) (es : List (List ℕ × List ℕ)) → below_all (slice
 below key [] e = tt
 below key (x ∷ es) e = let (a, b) = and_parts _ _ e in (is_less _ a, below key es b)
 
-ascend : (es : List (List ℕ × List ℕ)) → is_sorted (slice_cmp nat_cmp) es ≡ true
+pub ascend : (es : List (List ℕ × List ℕ)) → is_sorted (slice_cmp nat_cmp) es ≡ true
     → IsStrictlySortedBy (slice_cmp nat_cmp) (map (λ (e : List ℕ × List ℕ). e.0) es)
 unfolding IsStrictlySortedBy
 ascend [] e = tt
@@ -131,9 +133,11 @@ keys_again : (keys : List (List ℕ)) → keys_of (map deletion keys) ≡ keys
 keys_again [] = refl
 keys_again (key ∷ keys) = ap (λ ks. key ∷ ks) (keys_again keys)
 
-taken_ascend : (front : List ℕ) (m : RowMap) → IsStrictlySortedBy (slice_cmp nat_cmp) (keys_of (taken front (fin.keys m)))
+taken_ascend : (front : List ℕ) (m : RowMap)
+    → IsStrictlySortedBy (slice_cmp nat_cmp) (keys_of (taken front (fin.keys m)))
 taken_ascend front m =
-    subst (IsStrictlySortedBy (slice_cmp nat_cmp)) (sym (keys_again (filter (λ key. starts_with eqb key front) (fin.keys m))))
+    subst (IsStrictlySortedBy (slice_cmp nat_cmp))
+    (sym (keys_again (filter (λ key. starts_with eqb key front) (fin.keys m))))
     (IsStrictlySortedBy-filter (slice_cmp nat_cmp) (λ key. starts_with eqb key front) (fin.keys m)
     (ascend (fin.entries m) (sorted_entries m)))
 
@@ -146,8 +150,8 @@ unfolding IsStrictlySortedBy
 files_ascend m Preinstalled = tt
 files_ascend m (Module session part version) = taken_ascend (file_front session part []) m
 
-below_files : (m : RowMap) (t : Target) (key : List ℕ) → IsBelowFiles key → (q : List ℕ) → In q (keys_of (files_taken m t))
-    → slice_cmp nat_cmp key q ≡ Less
+below_files : (m : RowMap) (t : Target) (key : List ℕ) → IsBelowFiles key → (q : List ℕ)
+    → In q (keys_of (files_taken m t)) → slice_cmp nat_cmp key q ≡ Less
 below_files m Preinstalled key less q i = absurd i
 below_files m (Module session part version) key less q i =
     let front = file_front session part [] in

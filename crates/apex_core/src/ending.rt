@@ -49,13 +49,16 @@ pub(crate) fn judge_abort(
         Err(why) => return Ok(Judged::quiet(alloc, Reply::Refused(why))),
     };
     let r = &tables.sessions[place];
-    let session = session_in(alloc, r, next, r.rollback)?;
-    let mut batch = record_rows(alloc, &session)?;
+    let aborted = session_in(alloc, r, next, r.rollback)?;
+    let mut batch = record_rows(alloc, &aborted)?;
     take_files(alloc, rows, first_target(r.parts.as_slice()), &mut batch)?;
     Ok(Judged {
         reply: Reply::Done,
         rows: batch,
-        patch: Patch::Session { place, session },
+        patch: Patch::Session {
+            place,
+            session: aborted,
+        },
     })
 }
 

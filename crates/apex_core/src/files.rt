@@ -39,7 +39,7 @@ fn file_front(session: SessionId, part: u32) -> [u8; 6]
     [5, a, b, c, d, part as u8]
 }
 
-/// Adds to a batch that the rows whose keys begin so go.
+/// Adds to a batch that the rows whose keys begin so go. It reads these rows, and one more.
 fn take_rows(
     alloc: Global,
     rows: &Rows,
@@ -48,11 +48,13 @@ fn take_rows(
 ) -> Result<(), AllocError>
     ensures { OnOk result (batch.new.items ≡ batch.old.items ++ taken front.now (fin.keys rows.now)) }
 {
-    for (key, _) in rows.by_key() {
-        if key.starts_with(front) {
-            let key = Listed::of(key.as_slice().to_vec(alloc)?);
-            batch.push(Row { key, value: None })?;
+    let start = front.to_vec(alloc)?;
+    for (key, _) in rows.by_key().range(&start..) {
+        if !key.starts_with(front) {
+            break;
         }
+        let key = Listed::of(key.as_slice().to_vec(alloc)?);
+        batch.push(Row { key, value: None })?;
     }
     Ok(())
 }

@@ -26,10 +26,10 @@ record_rows-requires c =
     let m = c.in-Ok.ensures.moves in
     let r = c.index-r.result.now in
     let (w, s) = c.requires.stands in
-    has_room_moved c.args.rows.now c.args.tables.now w s (calls.Abort c.args.id) w.clock c.args.id step_of.Abort refl
-    c.in-Ok.to.0 c.in-Ok.to.1 m c.in_ok-session.session (moved_from r m.session c.in_ok-session.session c.in-Ok.to.1
+    has_room_moved c.args.rows.now c.args.tables.now w s c.args.id step_of.Abort
+    c.in-Ok.to.0 c.in-Ok.to.1 m c.in_ok-aborted.aborted (moved_from r m.session c.in_ok-aborted.aborted c.in-Ok.to.1
     (read_is c.args.tables.now.sessions.items c.args.id step_of.Abort c.in-Ok.to.0 c.in-Ok.to.1 m r c.index-r.ensures)
-    c.in_ok-session.ensures)
+    c.in_ok-aborted.ensures)
 
 pub take_files-requires : goal.take_files-requires
 take_files-requires c =
@@ -46,20 +46,20 @@ pub returns-clause-judged : goal.returns-clause-judged
 returns-clause-judged c w s =
     let m = c.in-Ok.ensures.moves in
     let r = c.index-r.result.now in
-    let session = c.in_ok-session.session in
+    let session = c.in_ok-aborted.aborted in
     let read = read_is c.args.tables.now.sessions.items c.args.id step_of.Abort c.in-Ok.to.0 c.in-Ok.to.1 m r
     c.index-r.ensures in
     let target : c.first_target.result ≡ own_target m.session =
     c.first_target.ensures ∙ ap (first_of (λ (p : Part). p.target)) c.as_slice.ensures ∙ ap own_target read in
     abort_done c.args.rows.now c.args.tables.now w s c.args.id c.in-Ok.to.0 c.in-Ok.to.1 m session
-    (moved_from r m.session session c.in-Ok.to.1 read c.in_ok-session.ensures) _ refl
+    (moved_from r m.session session c.in-Ok.to.1 read c.in_ok-aborted.ensures) _ refl
     (c.in_ok-take_files.ensures
     ∙ ap (λ rows. rows ++ files_taken c.args.rows.now c.first_target.result) c.in_ok-batch.ensures.rows
     ∙ ap (λ t. record_change session ∷ files_taken c.args.rows.now t) target) refl
 
 pub returns-clause-ascending : goal.returns-clause-ascending
 returns-clause-ascending c =
-    let session = c.in_ok-session.session in
+    let session = c.in_ok-aborted.aborted in
     subst (λ (rows : _). IsStrictlySortedBy (slice_cmp nat_cmp) (keys_of rows))
     (sym (c.in_ok-take_files.ensures
     ∙ ap (λ rows. rows ++ files_taken c.args.rows.now c.first_target.result) c.in_ok-batch.ensures.rows))

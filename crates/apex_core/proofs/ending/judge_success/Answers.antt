@@ -13,7 +13,9 @@ use Rattle.apex_world.proofs.PlainLemmas.{success_plain}
 use Rattle.apex_core.specs.Ending.{held_before, success_batch}
 use Rattle.apex_core.proofs.Batches.{none_ascend}
 use Rattle.apex_core.proofs.Moved.{read_is, moved_from, refused_is}
-use Rattle.apex_core.proofs.Successes.{success_again, success_done, success_ascends, success_room, held_numbered, time_is}
+use Rattle.apex_core.proofs.SuccessBatches.{success_ascends}
+use Rattle.apex_core.proofs.Successes.{success_again, success_done, success_room, held_numbered}
+use Rattle.apex_core.proofs.SuccessStates.{time_is}
 use Rattle.apex_core.proofs.ending.judge_success.Goals.{then-is_success, else-is_success+in_ok-batch}
 use Rattle.apex_core.proofs.ending.judge_success.Goals as goal
 
@@ -29,11 +31,9 @@ success_rows-requires-clause-room c =
     let m = c.in-Ok.ensures.moves in
     let r = c.index-r.result.now in
     let (w, s) = c.requires.stands in
-    let is_time = time_is c.args.tables.now.clock c.args.time _ c.later_of-clock.ensures.later
-    c.later_of-clock.ensures.range in
     let read = read_is c.args.tables.now.sessions.items c.args.id step_of.Success c.in-Ok.to.0 c.in-Ok.to.1 m r
     c.index-r.ensures in
-    success_room c.args.rows.now c.args.tables.now w s c.args.time is_time c.args.id c.in-Ok.to.0 c.in-Ok.to.1 m
+    success_room c.args.rows.now c.args.tables.now w s c.args.id c.in-Ok.to.0 c.in-Ok.to.1 m
     c.in_ok-session.session (moved_from r m.session c.in_ok-session.session c.in-Ok.to.1 read c.in_ok-session.ensures)
 
 pub success_rows-requires-clause-numbered : goal.success_rows-requires-clause-numbered
@@ -41,12 +41,10 @@ success_rows-requires-clause-numbered c =
     let m = c.in-Ok.ensures.moves in
     let r = c.index-r.result.now in
     let (w, s) = c.requires.stands in
-    let is_time = time_is c.args.tables.now.clock c.args.time _ c.later_of-clock.ensures.later
-    c.later_of-clock.ensures.range in
     let read = read_is c.args.tables.now.sessions.items c.args.id step_of.Success c.in-Ok.to.0 c.in-Ok.to.1 m r
     c.index-r.ensures in
     subst (λ ss. HasPartNumber (held_before ss c.in_ok-session.session)) (sym c.deref.ensures.value)
-    (held_numbered c.args.rows.now c.args.tables.now w s c.args.time is_time c.args.id c.in-Ok.to.0 c.in-Ok.to.1 m
+    (held_numbered c.args.rows.now c.args.tables.now w s c.args.id c.in-Ok.to.0 c.in-Ok.to.1 m
     c.in_ok-session.session (moved_from r m.session c.in_ok-session.session c.in-Ok.to.1 read c.in_ok-session.ensures))
 
 pub returns-clause-judged : goal.returns-clause-judged
@@ -54,19 +52,21 @@ returns-clause-judged c w s =
     let m = c.in-Ok.ensures.moves in
     let r = c.index-r.result.now in
     let session = c.in_ok-session.session in
-    let is_time = time_is c.args.tables.now.clock c.args.time _ c.later_of-clock.ensures.later
-    c.later_of-clock.ensures.range in
     let read = read_is c.args.tables.now.sessions.items c.args.id step_of.Success c.in-Ok.to.0 c.in-Ok.to.1 m r
     c.index-r.ensures in
     let same = moved_from r m.session session c.in-Ok.to.1 read c.in_ok-session.ensures in
+    let is_time = time_is c.args.tables.now.clock c.args.time _ c.later_of-clock.ensures.later
+    c.later_of-clock.ensures.range in
     let tells : is_success m.session.state ≡ c.is_success.result =
     ap (λ (x : Record). is_success x.state) (sym read) ∙ sym c.is_success.ensures in
     elim c.if-is_success.branch [
-      | then-is_success b ↦ success_again c.args.rows.now c.args.tables.now w s c.args.time is_time c.args.id
-          c.in-Ok.to.0 c.in-Ok.to.1 m session same _ c.later_of-clock.result (tells ∙ b.if-is_success.true) refl
+      | then-is_success b ↦ success_again c.args.rows.now c.args.tables.now w s c.args.id
+          c.in-Ok.to.0 c.in-Ok.to.1 m session same c.args.time is_time _ c.later_of-clock.result
+          (tells ∙ b.if-is_success.true) refl
           (ap (λ v. v.items) b.batch-is ∙ b.new-batch.ensures.items) refl c.later_of-clock.ensures.later
-      | else-is_success+in_ok-batch b ↦ success_done c.args.rows.now c.args.tables.now w s c.args.time is_time c.args.id
-          c.in-Ok.to.0 c.in-Ok.to.1 m session same (tells ∙ b.if-is_success.false) _ c.later_of-clock.result refl
+      | else-is_success+in_ok-batch b ↦ success_done c.args.rows.now c.args.tables.now w s c.args.id
+          c.in-Ok.to.0 c.in-Ok.to.1 m session same c.args.time is_time (tells ∙ b.if-is_success.false) _
+          c.later_of-clock.result refl
           (ap (λ v. v.items) b.batch-is ∙ b.in_ok-batch.ensures.rows
           ∙ ap (λ ss. success_batch c.args.rows.now ss session) b.deref.ensures.value)
           refl c.later_of-clock.ensures.later
@@ -77,7 +77,8 @@ returns-clause-ascending c =
     elim c.if-is_success.branch [
       | then-is_success b ↦ none_ascend c.if-is_success.batch.items
           (ap (λ v. v.items) b.batch-is ∙ b.new-batch.ensures.items)
-      | else-is_success+in_ok-batch b ↦ subst (λ (rows : List Row). IsStrictlySortedBy (slice_cmp nat_cmp) (keys_of rows))
+      | else-is_success+in_ok-batch b ↦ subst
+          (λ (rows : List Row). IsStrictlySortedBy (slice_cmp nat_cmp) (keys_of rows))
           (sym (ap (λ v. v.items) b.batch-is ∙ b.in_ok-batch.ensures.rows))
           (success_ascends c.args.rows.now b.deref.result.now c.in_ok-session.session)
     ]
