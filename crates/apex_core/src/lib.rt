@@ -3,6 +3,7 @@
 #![tactic(auto)]
 
 mod booting;
+mod choosing;
 mod ending;
 mod judged;
 mod judging;
