@@ -1,7 +1,9 @@
 pub mod Batches
+pub mod InPlace
 pub mod Judgements
 pub mod KeyModules
 pub mod Parts
 pub mod Performed
 pub mod Search
 pub mod Simple
+pub mod TurnedSessions

@@ -20,12 +20,13 @@ use apex_world::{BootOrder, Image, Package, SharedModule};
 use row_map::Rows;
 use std::alloc::{AllocError, Global};
 
-/// What a boot selects from: which modules mount, the rows before it, and its order.
+/// What a boot goes by: which modules mount, the rows before it, its order and its number.
 #[derive(Drop)]
 pub(crate) struct Selection<'a, M: Mounter> {
     pub(crate) mounter: &'a M,
     pub(crate) rows: &'a Rows,
     pub(crate) order: &'a BootOrder,
+    pub(crate) number: u32,
 }
 
 impl<'a, M: Mounter> Selection<'a, M> {

@@ -2,6 +2,7 @@
 //! rows and tables.
 #![tactic(auto)]
 
+mod becoming;
 mod booting;
 mod choosing;
 mod ending;
@@ -12,6 +13,7 @@ mod rows;
 mod sessions;
 mod submitting;
 mod tables;
+mod windows;
 
 pub use judged::{Judged, Patch};
 pub use judging::judge;

@@ -77,8 +77,9 @@ pub(crate) fn boots_value(
 fn push_moments(moments: &[Millis], into: &mut Vec<u8>) -> Result<(), AllocError>
     ensures { OnOk result (into.new.items ≡ into.old.items ++ moments_text moments.now) }
 {
-    for m in moments {
-        into.extend_from_slice(&m.number().to_be_bytes())?;
-    }
-    Ok(())
+    let [m, rest @ ..] = moments else {
+        return Ok(());
+    };
+    into.extend_from_slice(&m.number().to_be_bytes())?;
+    push_moments(rest, into)
 }
