@@ -1,3 +1,4 @@
+pub mod BatchRows
 pub mod Batches
 pub mod InPlace
 pub mod Judgements
@@ -5,5 +6,6 @@ pub mod KeyModules
 pub mod Parts
 pub mod Performed
 pub mod Search
+pub mod SettledKeys
 pub mod Simple
 pub mod TurnedSessions
