@@ -1,10 +1,12 @@
 pub mod BatchRows
 pub mod Batches
+pub mod BootBatches
 pub mod InPlace
 pub mod Judgements
 pub mod KeyModules
 pub mod Parts
 pub mod Performed
+pub mod PlainRows
 pub mod Search
 pub mod SettledKeys
 pub mod Simple

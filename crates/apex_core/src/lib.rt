@@ -3,6 +3,7 @@
 #![tactic(auto)]
 
 mod becoming;
+mod booted;
 mod booting;
 mod choosing;
 mod ending;
@@ -15,6 +16,7 @@ mod submitting;
 mod tables;
 mod windows;
 
+pub use booted::{JudgedBoot, judge_boot};
 pub use judged::{Judged, Patch};
 pub use judging::judge;
 pub use manager::Core;

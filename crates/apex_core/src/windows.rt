@@ -83,10 +83,3 @@ fn push_moments(moments: &[Millis], into: &mut Vec<u8>) -> Result<(), AllocError
     into.extend_from_slice(&m.number().to_be_bytes())?;
     push_moments(rest, into)
 }
-
-#[tactic(auto, using(crate::proofs::BatchRows::batch_value, crate::proofs::SettledKeys::settled_key))]
-fn probe() -> bool
-    ensures { result ≡ result }
-{
-    true
-}
