@@ -1,6 +1,7 @@
 pub mod BatchRows
 pub mod Batches
 pub mod BootBatches
+pub mod BootJudged
 pub mod InPlace
 pub mod Judgements
 pub mod KeyModules
