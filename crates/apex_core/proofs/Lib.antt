@@ -2,6 +2,7 @@ pub mod BatchRows
 pub mod Batches
 pub mod BootBatches
 pub mod BootJudged
+pub mod BootTables
 pub mod InPlace
 pub mod Judgements
 pub mod KeyModules
