@@ -1,8 +1,7 @@
 -- The batch of a boot leads to the rows of the world after it. Callers want `boot_leads`.
-use Rattle.std.proofs.Common.{◌≡◌, ◌||◌, ℕ, ◌+◌, Bool, true, false, cond, eqb, List, [], ◌∷◌, ◌++◌, map, Option, Some, None}
+use Rattle.std.proofs.Common.{◌≡◌, ℕ, ◌+◌, Bool, true, false, cond, eqb, List, [], ◌∷◌, ◌++◌, map, Option, Some, None}
 use Rattle.std.proofs.Common.{sym, ap, subst, ◌∙◌, refl, inl, inr}
 use Rattle.std.specs.Option.{option_map}
-use Rattle.std.specs.FinMap as fin
 use Rattle.std.proofs.lemmas.Bool.{false≢true, eqb-true}
 use Rattle.apex_base.specs.declared.numbers.SessionId.{SessionId}
 use Rattle.apex_base.specs.declared.records.Record.{Record}
@@ -22,7 +21,7 @@ use Rattle.row_map.proofs.Maps.{itself}
 use Rattle.package_store.specs.Settled.{settled_row, settled_value, IsChange}
 use Rattle.apex_world.specs.declared.calls.BootOrder.{BootOrder}
 use Rattle.apex_world.specs.Boot.{boot_world}
-use Rattle.apex_world.specs.BootByRows.{become_in, with_moment, row_in, GoesByRows}
+use Rattle.apex_world.specs.BootByRows.{become_in, with_moment, GoesByRows}
 use Rattle.apex_world.specs.Invariance.{IsOrderOf}
 use Rattle.apex_world.specs.Lawful.{Lawful}
 use Rattle.apex_world.specs.Plain.{IsPlain, moments_left}
@@ -39,7 +38,7 @@ use Rattle.apex_core.specs.Booted.{record_change, record_changes, boots_change, 
 use Rattle.apex_core.proofs.Batches.{IsRowOf, batch_leads}
 use Rattle.apex_core.proofs.BatchRows.{batch_skips, batch_value, in_batch_append, in_batch_row, or_parts}
 use Rattle.apex_core.proofs.PlainRows.{same_data, same_snapshot, same_pre_restore, same_watch}
-use Rattle.apex_core.proofs.SettledKeys.{IsOfNames, IsSettledKey, settled_key}
+use Rattle.apex_core.proofs.SettledKeys.{IsOfNames, settled_key}
 use Rattle.apex_core.proofs.TurnedSessions.{become_kept, become_rests}
 
 -- The law of what rows come to, by what they are of

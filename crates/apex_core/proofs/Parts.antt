@@ -1,6 +1,6 @@
 -- Targets whose parts have numbers of one byte: where those of all sessions do, so do those that names hold. Callers
 -- want `held_part`.
-use Rattle.std.proofs.Common.{ℕ, Bool, true, false, cond, ◌&&◌, List, [], ◌∷◌, fold, Option, Some, None}
+use Rattle.std.proofs.Common.{ℕ, Bool, true, false, cond, List, [], ◌∷◌, fold, Option, Some, None}
 use Rattle.std.specs.Prelude.{find, nat_lt}
 use Rattle.std.specs.List.{AllByRecursion}
 use Rattle.std.specs.Option.{option_map}
@@ -8,7 +8,7 @@ use Rattle.std.specs.Str.{bytes_eq}
 use Rattle.apex_base.specs.declared.records.Part.{Part}
 use Rattle.apex_base.specs.declared.records.Record.{Record}
 use Rattle.apex_base.specs.declared.records.Target.{Target}
-use Rattle.apex_base.specs.Held.{is_standing, is_success, candidate, later, target_of, held, before}
+use Rattle.apex_base.specs.Held.{is_standing, candidate, later, target_of, held}
 use Rattle.package_store.specs.Settled.{HasPart, HaveParts}
 
 abbrev Best : Type 0

@@ -1,6 +1,6 @@
 -- Which keys settling changes: those of targets that names hold or held, and of files. Callers want `settled_key` and
 -- `settled_rows`.
-use Rattle.std.proofs.Common.{◌≡◌, ◌≢◌, ℕ, Bool, true, false, cond, eqb, List, [], ◌∷◌, Option, Some, None, sym, ap, subst}
+use Rattle.std.proofs.Common.{◌≡◌, ◌≢◌, ℕ, Bool, true, false, cond, eqb, List, [], ◌∷◌, Option, Some, None, sym, ap}
 use Rattle.std.proofs.Common.{◌∙◌, refl}
 use Rattle.std.specs.FinMap as fin
 use Rattle.std.proofs.lemmas.Bool.{eqb-true}
@@ -9,7 +9,7 @@ use Rattle.apex_base.specs.Held.{kept}
 use Rattle.apex_base.specs.Keys.{Key, Boots, RecordOf, ActiveOf, BackupOf, FileOf, DataOf, SnapshotOf, PreRestoreOf}
 use Rattle.apex_base.specs.Keys.{WatchOf, IsKey, RowMap, key_text}
 use Rattle.apex_base.specs.Settled.{active_of, backup_of}
-use Rattle.package_store.specs.Settled.{file_stays, settled, settled_value}
+use Rattle.package_store.specs.Settled.{file_stays, settled_value}
 use Rattle.apex_world.specs.BootByRows.{HasTypedKeys}
 
 -- what settling may change

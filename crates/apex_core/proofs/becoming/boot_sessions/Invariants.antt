@@ -1,5 +1,4 @@
 use Rattle.std.proofs.Common.{◌≡◌, ◌++◌, take, drop, flat_map}
-use Rattle.apex_base.specs.declared.records.Record.{Record}
 use Rattle.apex_world.specs.Boot.{changed_to}
 use Rattle.apex_world.specs.BootByRows.{become_in, sessions_in}
 use Rattle.apex_core.specs.Booted.{record_changes}

@@ -1,4 +1,4 @@
-use Rattle.std.proofs.Common.{◌≡◌, ◌∷◌, [], ◌++◌, ◌+◌, ℕ, List, sym, ap, subst, ◌∙◌, flat_map, arith}
+use Rattle.std.proofs.Common.{◌≡◌, ◌∷◌, [], ◌++◌, ◌+◌, ℕ, List, ap, subst, ◌∙◌, flat_map, arith}
 use Rattle.apex_base.specs.declared.records.Record.{Record}
 use Rattle.row_codec.specs.declared.batch.Row.{Row}
 use Rattle.apex_world.specs.declared.calls.Changed.{Changed}
@@ -7,7 +7,7 @@ use Rattle.apex_world.specs.BootByRows.{become_in, sessions_in, chosen_in}
 use Rattle.apex_world.specs.BootByRows.{with_moment}
 use Rattle.apex_world.specs.Plain.{moments_left}
 use Rattle.apex_core.specs.Booted.{record_changes, boots_change, IsSettling}
-use Rattle.apex_core.proofs.BootJudged.{Judges, rooms, parts_left, small_number, booted_is}
+use Rattle.apex_core.proofs.BootJudged.{rooms, parts_left, small_number, booted_is}
 use Rattle.apex_core.proofs.booted.judge_boot.Goals as goal
 
 pub overflow_add-number : goal.overflow_add-number

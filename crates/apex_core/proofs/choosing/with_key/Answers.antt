@@ -1,5 +1,4 @@
-use Rattle.std.proofs.Common.{◌≡◌, ℕ, List, Some, None, option_map, Bor, sym, ap, ◌∙◌, refl, codes}
-use Rattle.std.specs.FinMap as fin
+use Rattle.std.proofs.Common.{◌≡◌, Some, option_map, ap, ◌∙◌, refl}
 use Rattle.apex_base.specs.Modules.{FileMap}
 use Rattle.apex_world.specs.Soundness.{key_of}
 use Rattle.apex_core.proofs.KeyModules.{more_ok, no_key, one_key}

@@ -1,4 +1,4 @@
-use Rattle.std.proofs.Common.{◌≡◌, ◌<◌, length, [], take, sym, ap, ◌∙◌, arith}
+use Rattle.std.proofs.Common.{◌<◌, length, [], take, sym, ap, ◌∙◌, arith}
 use Rattle.std.proofs.lemmas.List.Sums.{fold_more}
 use Rattle.apex_world.specs.BootByRows.{chosen_in, pick_in}
 use Rattle.apex_world.specs.Selection.{with_pick}
