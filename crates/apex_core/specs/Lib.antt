@@ -1,3 +1,4 @@
+pub mod Booted
 pub mod Core
 pub mod Ending
 pub mod Judged

@@ -1,7 +1,13 @@
 //! A boot from rows: `docs/boot.md`, and what becomes of the rows in `docs/rows.md`, "After a boot".
+ghost use Rattle.std.specs.Prelude.{◌≡◌, ◌<◌, ◌≤◌, ◌^◌};
+ghost use Rattle.apex_world.specs.Limits.{kind_units, units_of};
+
+use crate::booted::judge_boot;
 use crate::manager::Core;
-use apex_base::Mounter;
+use crate::tables::Tables;
+use apex_base::{Kind, Mounter, Record};
 use apex_world::{BootOrder, BootReply};
+use package_store::{kept_weight, rows_are_those_shown};
 use row_map::Rows;
 use std::alloc::{AllocError, Global};
 
@@ -28,7 +34,45 @@ impl Core {
         ensures stands { (w : World) → IsStored rows w → IsOrderOf w order.now
             → IfOk result (λ up. StandsFor up.0.rows up.0.tables (boot_world w order.now (M.mounting mounter.now))) }
     {
-        let _ = (alloc, rows, order, mounter);
-        Err(AllocError)
+        let judged = judge_boot(alloc, &rows, order, mounter)?;
+        let image = order.image.share()?;
+        let mut after = rows;
+        after.change_all(judged.rows)?;
+        rows_are_those_shown();
+        let weight = kept_weight(after.by_key());
+        let units = units_of(&judged.sessions);
+        let tables = Tables {
+            scale: order.scale,
+            sessions: judged.sessions,
+            units,
+            weight,
+            image,
+            active: judged.active,
+            clock: order.time,
+        };
+        Ok((Core::of(after, tables), judged.reply))
+    }
+}
+
+/// The units of these sessions.
+fn units_of(sessions: &[Record]) -> u32
+    requires { units_of sessions.now < 2 ^ 32 }
+    ensures { result ≡ units_of sessions.now }
+{
+    let mut units = 0;
+    for r in sessions {
+        units += session_units(r.kind);
+    }
+    units
+}
+
+fn session_units(kind: Kind) -> u32
+    ensures units { result ≡ kind_units kind }
+    ensures few { result ≤ 2 }
+{
+    match kind {
+        Kind::Plain => 1,
+        Kind::WithRollback => 2,
+        Kind::RollbackOf(_) => 0,
     }
 }

@@ -3,7 +3,10 @@
 #![tactic(auto)]
 
 mod admitting;
+mod becoming;
+mod booted;
 mod booting;
+mod choosing;
 mod ending;
 mod files;
 mod judged;
@@ -15,7 +18,9 @@ mod sessions;
 mod submitting;
 mod tables;
 mod weighing;
+mod windows;
 
+pub use booted::{JudgedBoot, judge_boot};
 pub use judged::{Judged, Patch};
 pub use judging::judge;
 pub use manager::Core;

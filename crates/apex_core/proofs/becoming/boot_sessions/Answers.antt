@@ -1,0 +1,38 @@
+use Rattle.std.proofs.Common.{◌≡◌, ◌<◌, length, ◌++◌, get_or, slice_set, sym, ap, ◌∙◌, arith}
+use Rattle.std.proofs.lemmas.List.Edits.{map_over_more}
+use Rattle.apex_base.specs.declared.records.Record.{Record}
+use Rattle.apex_world.specs.Boot.{changed_to}
+use Rattle.apex_world.specs.BootByRows.{become_in}
+use Rattle.apex_core.specs.Booted.{record_change}
+use Rattle.apex_core.proofs.InPlace.{next_untouched, noted_more}
+use Rattle.apex_core.proofs.becoming.boot_sessions.Goals as goal
+
+pub loop-r-preserved : goal.loop-r-preserved
+loop-r-preserved g c =
+    let given = c.args.selection.now in
+    let mounts = g.M.Mounter.mounting given.mounter.now in
+    let f = become_in mounts given.rows.now given.order.now given.number in
+    let xs = c.deref_mut-r-items.result.now in
+    let i = c.loop-r.r-index in
+    let x = c.r-item.result in
+    let lt : i < length xs = omega arith in
+    let here : x ≡ get_or xs i x =
+    next_untouched f xs c.loop-r.r-items i x lt c.loop-r.invariant.turned_front c.r-item.is in
+    let ys = c.loop-r.r-items in
+    let same : get_or ys i x ≡ x = sym c.r-item.is in
+    let turned = c.in_ok-boot_session.ensures.session ∙ ap f same in
+    record {
+      turned_front =
+          ap (slice_set ys i) turned
+          ∙ map_over_more f xs ys i x lt c.loop-r.invariant.turned_front c.r-item.is;
+      changed_front = noted_more (λ (r : Record). changed_to r (f r)) xs i x _ _ lt here
+          (c.in_ok-boot_session.ensures.changes
+          ∙ ap (λ (r : Record). c.loop-r.noted.changes.items ++ changed_to (get_or ys i x) r) turned
+          ∙ ap (λ (r : Record). c.loop-r.noted.changes.items ++ changed_to r (f x)) same)
+          c.loop-r.invariant.changed_front;
+      written_front = noted_more (λ (r : Record). record_change r (f r)) xs i x _ _ lt here
+          (c.in_ok-boot_session.ensures.rows
+          ∙ ap (λ (r : Record). c.loop-r.noted.rows.items ++ record_change (get_or ys i x) r) turned
+          ∙ ap (λ (r : Record). c.loop-r.noted.rows.items ++ record_change r (f x)) same)
+          c.loop-r.invariant.written_front;
+    }

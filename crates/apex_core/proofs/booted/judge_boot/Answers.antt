@@ -1,0 +1,74 @@
+use Rattle.std.proofs.Common.{◌≡◌, ◌∷◌, [], ◌++◌, ◌+◌, ℕ, List, ap, subst, ◌∙◌, flat_map, arith}
+use Rattle.apex_base.specs.declared.records.Record.{Record}
+use Rattle.row_codec.specs.declared.batch.Row.{Row}
+use Rattle.apex_world.specs.declared.calls.Changed.{Changed}
+use Rattle.apex_world.specs.Boot.{changed_to}
+use Rattle.apex_world.specs.BootByRows.{become_in, sessions_in, chosen_in}
+use Rattle.apex_world.specs.BootByRows.{with_moment}
+use Rattle.apex_world.specs.Plain.{moments_left}
+use Rattle.apex_core.specs.Booted.{record_changes, boots_change, IsSettling}
+use Rattle.apex_core.proofs.BootJudged.{rooms, parts_left, small_number, booted_is}
+use Rattle.apex_core.proofs.booted.judge_boot.Goals as goal
+
+pub overflow_add-number : goal.overflow_add-number
+overflow_add-number g c =
+    let (w, (s, o)) = c.requires.stored in
+    let low = small_number c.args.rows.now w s c.args.order.now o _ c.in_ok-boots.ensures in
+    omega (arith, low)
+
+pub boot_sessions-requires-after_bounds : goal.boot_sessions-requires-after_bounds
+boot_sessions-requires-after_bounds g c κs within =
+    let (w, (s, o)) = c.requires.stored in
+    rooms c.args.rows.now w s c.in_ok-sessions.sessions.items c.in_ok-sessions.ensures
+
+pub choose-requires-after_bounds : goal.choose-requires-after_bounds
+choose-requires-after_bounds g c κs within =
+    let (w, (s, o)) = c.requires.stored in
+    parts_left c.args.rows.now w s (g.M.Mounter.mounting c.args.mounter.now) c.args.order.now
+    (c.in_ok-boots.boots.count + 1) c.in_ok-sessions.sessions.items c.deref-2.result.now c.in_ok-sessions.ensures
+    (c.deref-2.ensures.value ∙ c.in_ok-boot_sessions.ensures.sessions)
+
+pub with_settled-requires : goal.with_settled-requires
+with_settled-requires g c =
+    let (w, (s, o)) = c.requires.stored in
+    parts_left c.args.rows.now w s (g.M.Mounter.mounting c.args.mounter.now) c.args.order.now
+    (c.in_ok-boots.boots.count + 1) c.in_ok-sessions.sessions.items c.deref-3.result.now c.in_ok-sessions.ensures
+    (c.deref-3.ensures.value ∙ c.in_ok-boot_sessions.ensures.sessions)
+
+pub returns : goal.returns
+returns g c w s o =
+    let mounts = g.M.Mounter.mounting c.args.mounter.now in
+    let kept = c.args.rows.now in
+    let order = c.args.order.now in
+    let count = c.in_ok-boots.boots.count in
+    let recent = c.in_ok-boots.boots.moments.items in
+    let before = c.in_ok-sessions.sessions.items in
+    let after : c.boot_sessions.new.sessions.items ≡ sessions_in mounts kept order (count + 1) before =
+    c.in_ok-boot_sessions.ensures.sessions in
+    let (settled, (are, settling)) = c.in_ok-batch.ensures in
+    let first : Row = boots_change (count + 1) (moments_left order.time (with_moment recent order)) in
+    let noted : c.in_ok-noted.noted.rows.items ≡ first ∷ [] =
+    c.in_ok-noted.ensures.rows ∙ ap (λ (ms : List ℕ). boots_change (count + 1) ms ∷ [])
+    (c.deref.ensures.value ∙ c.in_ok-boot_loop.ensures.moments) in
+    let picked : c.in_ok-active.active.items ≡ chosen_in mounts kept (sessions_in mounts kept order (count + 1) before)
+    order.image.modules = c.in_ok-active.ensures
+    ∙ ap (λ (ss : List Record). chosen_in mounts kept ss order.image.modules) (c.deref-2.ensures.value ∙ after) in
+    let told = c.of-2.ensures ∙ c.in_ok-told.ensures.items_if_clones_equal (λ x y e. e) ∙ c.deref-4.ensures.value
+    ∙ picked in
+    let changed = flat_map (λ (r : Record). changed_to r (become_in mounts kept order (count + 1) r)) before in
+    let changes = c.of.ensures ∙ c.in_ok-boot_sessions.ensures.changes
+    ∙ ap (λ (xs : List Changed). xs ++ changed) c.in_ok-noted.ensures.changes in
+    booted_is kept w s order o c.requires.alone mounts c.settled_by_key.ensures (count, recent) before settled _
+    c.in_ok-boots.ensures c.in_ok-sessions.ensures (record {
+      reply = λ i. record {
+        number = count + 1;
+        changes = changes i;
+        active = told i;
+        boot_loop = c.in_ok-boot_loop.ensures.told i;
+      };
+      rows = are ∙ ap (λ (xs : List Row). xs ++ settled) (c.in_ok-boot_sessions.ensures.rows
+          ∙ ap (λ (xs : List Row). xs ++ record_changes (become_in mounts kept order (count + 1)) before) noted);
+      sessions = after;
+      active = picked;
+      settling = subst (λ (ss : List Record). IsSettling kept ss settled) (c.deref-3.ensures.value ∙ after) settling;
+    })
