@@ -1,4 +1,6 @@
 pub mod Counts
+pub mod Following
+pub mod Keeping
 pub mod Plans
 pub mod PlayedLemmas
 pub mod Runs

@@ -10,12 +10,16 @@ use Rattle.apex_world.specs.declared.script.Lane.{Lane}
 use Rattle.apex_world.specs.declared.script.Segment.{Segment}
 use Rattle.apex_world.specs.declared.script.ScriptBoot.{ScriptBoot}
 use Rattle.apex_world.specs.World.{World}
-use Rattle.apex_world.specs.Fold.{turned_by}
+use Rattle.apex_world.specs.Fold.{Event, turned_by}
 use Rattle.apex_world.specs.Text.{turn_lines}
 use Rattle.apex_world.specs.Turns.{lane_calls}
 use Rattle.apex_base.specs.Outside.{PutFront, PutAll, Puts}
 use Rattle.play_text.specs.declared.put.PutFailed.{PutFailed}
-use Rattle.device_play.specs.Run.{Planned, Stage, Went, Stopped, Ran, rows_of, plan_world, plan_lines, planned_call}
+use Rattle.device_play.specs.declared.device.Device.{Device}
+use Rattle.device_play.specs.Device.{IsDeviceOf}
+use Rattle.device_play.specs.Events.{CanHappen}
+use Rattle.device_play.specs.Run.{Planned, Stage, CanFollow, CanPlay, WentFrom, StoppedFrom, Went, Stopped, Ran}
+use Rattle.device_play.specs.Run.{rows_of, plan_world, plan_lines, planned_call}
 use Rattle.device_play.specs.Run.{call_plan, block_plan, segment_plan, boot_plan, boots_plan}
 use Rattle.play_text.proofs.Puts.{PutAll-none, PutFront-none, PutAll-more, PutFront-more, PutAll-of, PutFront-of}
 
@@ -36,35 +40,62 @@ rows_of-append : (a b : List Planned) → rows_of (a ++ b) ≡ rows_of a ++ rows
 rows_of-append [] b = refl
 rows_of-append (p ∷ a) b = ap (λ rows. p.row ∷ rows) (rows_of-append a b)
 
+-- the steps of a front can happen, and the rest can after them
+pub can_follow-parts : (w : World) (a b : List Planned) → CanFollow w (a ++ b)
+    → CanFollow w a × CanFollow (plan_world w a) b
+can_follow-parts w [] b can = (tt, can)
+can_follow-parts w (p ∷ a) b can =
+    let (front, rest) = can_follow-parts (turned_by w p.event).world a b can.1 in
+    ((can.0, front), rest)
+
+pub can_follow-append : (w : World) (a b : List Planned) → CanFollow w a → CanFollow (plan_world w a) b
+    → CanFollow w (a ++ b)
+can_follow-append w [] b front rest = rest
+can_follow-append w (p ∷ a) b front rest =
+    (front.0, can_follow-append (turned_by w p.event).world a b front.1 rest)
+
 -- Runs
 
 pub Went-none : (s : Stage) → Went [] s s
-Went-none s = record { turns = sym (append-nil s.turns); world = refl; put = PutAll-none s.held }
+Went-none s = λ w is can. record { turns = sym (append-nil s.turns); leads = is; put = PutAll-none s.held }
 
-pub Went-more : (a b : List Planned) (s t u : Stage) → Went a s t → Went b t u → Went (a ++ b) s u
-Went-more a b s t u p q = record {
+went_from-more : (w : World) (a b : List Planned) (s t u : Stage) → WentFrom w a s t → WentFrom (plan_world w a) b t u
+    → WentFrom w (a ++ b) s u
+went_from-more w a b s t u p q = record {
   turns = q.turns ∙ ap (λ x. x ++ rows_of b) p.turns ∙ append_assoc s.turns (rows_of a) (rows_of b)
       ∙ ap (λ x. s.turns ++ x) (sym (rows_of-append a b));
-  world = q.world ∙ ap (λ x. plan_world x b) p.world ∙ sym (plan_world-append s.world a b);
-  put = PutAll-of s.held u.held _ _ (plan_lines-append s.world a b ∙ ap (λ x. plan_lines s.world a ++ plan_lines x b)
-      (sym p.world)) (PutAll-more s.held t.held u.held _ _ p.put q.put);
+  leads = subst (IsDeviceOf u.device) (sym (plan_world-append w a b)) q.leads;
+  put = PutAll-of s.held u.held _ _ (plan_lines-append w a b) (PutAll-more s.held t.held u.held _ _ p.put q.put);
 }
 
-pub Stopped-more : (a b : List Planned) (s t u : Stage) → Went a s t → Stopped b t u → Stopped (a ++ b) s u
-Stopped-more a b s t u p q = record {
+pub Went-more : (a b : List Planned) (s t u : Stage) → Went a s t → Went b t u → Went (a ++ b) s u
+Went-more a b s t u p q = λ w is can.
+    let (front, rest) = can_follow-parts w a b can in
+    let went = p w is front in
+    went_from-more w a b s t u went (q (plan_world w a) went.leads rest)
+
+stopped_from-more : (w : World) (a b : List Planned) (s t u : Stage) → WentFrom w a s t
+    → StoppedFrom (plan_world w a) b t u → StoppedFrom w (a ++ b) s u
+stopped_from-more w a b s t u p q = record {
   front = a ++ q.front;
   rest = q.rest;
   split = ap (λ x. a ++ x) q.split ∙ sym (append_assoc a q.front q.rest);
   turns = q.turns ∙ ap (λ x. x ++ rows_of q.front) p.turns ∙ append_assoc s.turns (rows_of a) (rows_of q.front)
       ∙ ap (λ x. s.turns ++ x) (sym (rows_of-append a q.front));
-  put = PutFront-of s.held u.held _ _ (plan_lines-append s.world a q.front
-      ∙ ap (λ x. plan_lines s.world a ++ plan_lines x q.front) (sym p.world))
+  put = PutFront-of s.held u.held _ _ (plan_lines-append w a q.front)
       (PutFront-more s.held t.held u.held _ _ p.put q.put);
 }
 
+pub Stopped-more : (a b : List Planned) (s t u : Stage) → Went a s t → Stopped b t u → Stopped (a ++ b) s u
+Stopped-more a b s t u p q = λ w is can.
+    let (front, rest) = can_follow-parts w a b can in
+    let went = p w is front in
+    stopped_from-more w a b s t u went (q (plan_world w a) went.leads rest)
+
 -- a run that stops, with more to come
 pub Stopped-front : (a b : List Planned) (s t : Stage) → Stopped a s t → Stopped (a ++ b) s t
-Stopped-front a b s t q =
+Stopped-front a b s t p = λ w is can.
+    let q = p w is (can_follow-parts w a b can).0 in
     record {
       front = q.front;
       rest = q.rest ++ b;
@@ -75,7 +106,7 @@ Stopped-front a b s t q =
 
 -- a run that stops before its first turn is entered
 pub Stopped-none : (plan : List Planned) (s t : Stage) → t.turns ≡ s.turns → t.held ≡ s.held → Stopped plan s t
-Stopped-none plan s t same held = record {
+Stopped-none plan s t same held = λ w is can. record {
   front = [];
   rest = plan;
   split = refl;
@@ -83,22 +114,26 @@ Stopped-none plan s t same held = record {
   put = subst (λ h. PutFront s.held h []) (sym held) (PutFront-none s.held []);
 }
 
--- a run of one step
-pub Went-one : (p : Planned) (s t : Stage) → t.turns ≡ s.turns ++ p.row ∷ []
-    → t.world ≡ (turned_by s.world p.event).world
-    → PutAll s.held t.held (turn_lines p.row (turned_by s.world p.event).shown) → Went (p ∷ []) s t
-Went-one p s t turns world put =
-    record { turns = turns; world = world; put = PutAll-of s.held t.held _ _ (append-nil _) put }
+-- what becomes of the device at one step
+pub LeadsBy : Event → Device → Device → Type 0
+LeadsBy event d d' = (w : World) → IsDeviceOf d w → CanHappen w event → IsDeviceOf d' (turned_by w event).world
 
--- a step whose turn is entered, and whose lines are put in part
-pub Stopped-one : (p : Planned) (s t : Stage) → t.turns ≡ s.turns ++ p.row ∷ []
-    → PutFront s.held t.held (turn_lines p.row (turned_by s.world p.event).shown) → Stopped (p ∷ []) s t
-Stopped-one p s t turns put = record {
+-- and what is put, in a call with this result
+pub PutsBy : {T : Type 0} → Planned → Stage → Stage → Result T PutFailed → Type 0
+PutsBy p s t r = (w : World) → IsDeviceOf s.device w → CanHappen w p.event
+    → Puts s.held t.held r (turn_lines p.row (turned_by w p.event).shown)
+
+-- a step whose turn is entered, and whose lines are put as far as the call went
+pub ran_one : {T : Type 0} (r : Result T PutFailed) (p : Planned) (s t : Stage) → t.turns ≡ s.turns ++ p.row ∷ []
+    → LeadsBy p.event s.device t.device → PutsBy p s t r → Ran r (p ∷ []) s t
+ran_one (Ok x) p s t turns leads put = λ w is can.
+    record { turns = turns; leads = leads w is can.0; put = PutAll-of s.held t.held _ _ (append-nil _) (put w is can.0) }
+ran_one (Err e) p s t turns leads put = λ w is can. record {
   front = p ∷ [];
   rest = [];
   split = refl;
   turns = turns;
-  put = PutFront-of s.held t.held _ _ (append-nil _) put;
+  put = PutFront-of s.held t.held _ _ (append-nil _) (put w is can.0);
 }
 
 -- a call that fails leaves a run that stopped
@@ -112,13 +147,6 @@ pub ran_more : {T : Type 0} (r : Result T PutFailed) (a b : List Planned) (s t u
 ran_more (Ok x) a b s t u p q = Went-more a b s t u p q
 ran_more (Err e) a b s t u p q = Stopped-more a b s t u p q
 
--- a step whose turn is entered, and whose lines are put as far as the call went
-pub ran_one : {T : Type 0} (r : Result T PutFailed) (p : Planned) (s t : Stage) → t.turns ≡ s.turns ++ p.row ∷ []
-    → t.world ≡ (turned_by s.world p.event).world
-    → Puts s.held t.held r (turn_lines p.row (turned_by s.world p.event).shown) → Ran r (p ∷ []) s t
-ran_one (Ok x) p s t turns world put = Went-one p s t turns world put
-ran_one (Err e) p s t turns world put = Stopped-one p s t turns put
-
 pub Went-of : (a b : List Planned) (s t : Stage) → b ≡ a → Went a s t → Went b s t
 Went-of a b s t same p = subst (λ plan. Went plan s t) (sym same) p
 
@@ -130,6 +158,14 @@ pub Stopped-at : (whole a here rest : List Planned) (s t u : Stage) → whole �
     → Stopped here t u → Stopped whole s u
 Stopped-at whole a here rest s t u same p q =
     Stopped-of _ _ s u same (Stopped-more a (here ++ rest) s t u p (Stopped-front here rest t u q))
+
+-- a part can be played where the whole could, and the earlier parts were
+pub can_play-at : (whole a here rest : List Planned) (s t : Stage) → whole ≡ a ++ (here ++ rest) → Went a s t
+    → CanPlay whole s.device → CanPlay here t.device
+can_play-at whole a here rest s t same p can =
+    let (w, is, all) = can in
+    let (front, later) = can_follow-parts w a (here ++ rest) (subst (CanFollow w) same all) in
+    (plan_world w a, ((p w is front).leads, (can_follow-parts (plan_world w a) here rest later).0))
 
 -- a run that goes on by one of several parts
 pub Went-next : (whole a here : List Planned) (s t u : Stage) → whole ≡ a ++ here → Went a s t → Went here t u

@@ -27,7 +27,5 @@ loop-boot-preserved g c =
       went = Went-next _ _ _ _ _ _ (boots_plan_next i (c.loop-boot.number + 1) xs c.boot-item.result lt c.boot-item.is
           (omega arith)) c.loop-boot.invariant.went c.in_ok-play_boot_and_calls.ensures.ran;
       count = omega arith;
-      counted = c.in_ok-play_boot_and_calls.ensures.boots refl ∙ ap (λ k. k + 1) c.loop-boot.invariant.counted;
       faults = faults_more _ _ _ _ _ c.loop-boot.invariant.faults c.in_ok-play_boot_and_calls.ensures.faults;
-      within = c.in_ok-play_boot_and_calls.ensures.within refl;
     }

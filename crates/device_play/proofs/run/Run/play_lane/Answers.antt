@@ -28,6 +28,5 @@ loop-call-preserved g c =
           (rw c.borrowed.ensures at c.in_ok-play_call.ensures.ran);
       count = omega arith;
       faults = faults_more _ _ _ _ _ c.loop-call.invariant.faults c.in_ok-play_call.ensures.faults;
-      boots = c.in_ok-play_call.ensures.boots ∙ c.loop-call.invariant.boots;
-      within = c.in_ok-play_call.ensures.within refl;
+      on = c.in_ok-play_call.ensures.on refl;
     }

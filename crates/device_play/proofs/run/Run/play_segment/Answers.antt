@@ -137,6 +137,5 @@ loop-lane-preserved g c =
       counts = subst (HasCounts (set steps l.number k)) (sym blocks)
           (counts_more steps (e ++ take j s.lanes) l k c.loop-lane.invariant.counts low is);
       faults = faults_more _ _ _ _ _ c.loop-lane.invariant.faults c.in_ok-play_lane.ensures.faults;
-      boots = c.in_ok-play_lane.ensures.boots ∙ c.loop-lane.invariant.boots;
-      within = c.in_ok-play_lane.ensures.within refl;
+      on = c.in_ok-play_lane.ensures.on refl;
     }

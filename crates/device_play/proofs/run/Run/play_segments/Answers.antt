@@ -37,6 +37,5 @@ loop-at-preserved g c =
           c.in_ok-play_step.ensures.ran;
       counts = c.in_ok-play_step.ensures.counts refl;
       faults = faults_more _ _ _ _ _ c.loop-at.invariant.faults c.in_ok-play_step.ensures.faults;
-      boots = c.in_ok-play_step.ensures.boots ∙ c.loop-at.invariant.boots;
-      within = c.in_ok-play_step.ensures.within refl;
+      on = c.in_ok-play_step.ensures.on refl;
     }
