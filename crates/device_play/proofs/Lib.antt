@@ -1,6 +1,8 @@
 pub mod Counts
+pub mod EmptyStores
 pub mod Following
 pub mod Keeping
+pub mod Ordered
 pub mod Plans
 pub mod PlayedLemmas
 pub mod Runs

@@ -163,9 +163,9 @@ Stopped-at whole a here rest s t u same p q =
 pub can_play-at : (whole a here rest : List Planned) (s t : Stage) → whole ≡ a ++ (here ++ rest) → Went a s t
     → CanPlay whole s.device → CanPlay here t.device
 can_play-at whole a here rest s t same p can =
-    let (w, is, all) = can in
-    let (front, later) = can_follow-parts w a (here ++ rest) (subst (CanFollow w) same all) in
-    (plan_world w a, ((p w is front).leads, (can_follow-parts (plan_world w a) here rest later).0))
+    let (w, both) = can in
+    let (front, later) = can_follow-parts w a (here ++ rest) (subst (CanFollow w) same both.1) in
+    (plan_world w a, ((p w both.0 front).leads, (can_follow-parts (plan_world w a) here rest later).0))
 
 -- a run that goes on by one of several parts
 pub Went-next : (whole a here : List Planned) (s t u : Stage) → whole ≡ a ++ here → Went a s t → Went here t u

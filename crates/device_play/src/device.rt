@@ -1,5 +1,5 @@
 //! A device: which boots and calls happen to it, and what is left of it in between.
-ghost use Rattle.std.specs.Prelude.{◌≡◌, [], IfOk, OnOk};
+ghost use Rattle.std.specs.Prelude.{◌≡◌, [], IfOk, OnOk, OnErr, IsTrue};
 ghost use Rattle.apex_base.specs.Ranges.{IsMillis};
 ghost use Rattle.apex_base.specs.Text.{is_print};
 ghost use Rattle.apex_core.specs.Core.{IsStored};
@@ -23,15 +23,6 @@ use std::mem;
 pub enum Device {
     Off(Rows),
     On(Core),
-}
-
-/// For proofs: what the parts of an order are.
-fn known(order: &BootOrder)
-    ensures print { IsTrue (is_print order.now.image.print) }
-    ensures time { IsMillis order.now.time }
-{
-    let _ = order.image.get().print.as_bytes();
-    let _ = order.time.number();
 }
 
 impl Device {
@@ -74,7 +65,7 @@ impl Device {
         Ok(reply)
     }
 
-    /// A call happens to a device that is on. Where memory runs out, nothing happens.
+    /// A call happens to a device that is on. Where memory runs out, it is of the worlds that it was of.
     pub fn act(&mut self, alloc: Global, call: &CallRef) -> Result<Reply, AllocError>
         requires on { IsOn self.old }
         requires built { IsBuilt (call_at call.now) }
@@ -82,6 +73,7 @@ impl Device {
             → IfOk result (λ reply. reply ≡ (step w (call_at call.now)).reply) }
         ensures leads { (w : World) → IsDeviceOf self.old w
             → OnOk result (IsDeviceOf self.new (step w (call_at call.now)).world) }
+        ensures stays { (w : World) → IsDeviceOf self.old w → OnErr result (IsDeviceOf self.new w) }
         ensures on { IsOn self.new }
     {
         match self {
@@ -89,4 +81,13 @@ impl Device {
             Device::On(core) => core.act(alloc, call),
         }
     }
+}
+
+/// For proofs: what the parts of an order are.
+fn known(order: &BootOrder)
+    ensures print { IsTrue (is_print order.now.image.print) }
+    ensures time { IsMillis order.now.time }
+{
+    let _ = order.image.get().print.as_bytes();
+    let _ = order.time.number();
 }
