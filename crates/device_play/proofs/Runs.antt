@@ -115,11 +115,11 @@ Stopped-none plan s t same held = λ w is can. record {
 }
 
 -- what becomes of the device at one step
-pub LeadsBy : Event → Device → Device → Type 0
+abbrev pub LeadsBy : Event → Device → Device → Type 0
 LeadsBy event d d' = (w : World) → IsDeviceOf d w → CanHappen w event → IsDeviceOf d' (turned_by w event).world
 
 -- and what is put, in a call with this result
-pub PutsBy : {T : Type 0} → Planned → Stage → Stage → Result T PutFailed → Type 0
+abbrev pub PutsBy : {T : Type 0} → Planned → Stage → Stage → Result T PutFailed → Type 0
 PutsBy p s t r = (w : World) → IsDeviceOf s.device w → CanHappen w p.event
     → Puts s.held t.held r (turn_lines p.row (turned_by w p.event).shown)
 
