@@ -12,6 +12,7 @@ use Rattle.apex_world.specs.Orders.{HasOrders, IsOrdered}
 use Rattle.apex_world.specs.Selection.{all_mount_but}
 use Rattle.apex_world.specs.Turns.{lane_calls}
 use Rattle.apex_world.specs.World.{World, empty_world}
+use Rattle.device_play.specs.Events.{CanBoot}
 use Rattle.device_play.specs.Run.{Planned, CanFollow, plan_world, call_plan, block_plan, segment_plan, boot_plan, boots_plan}
 use Rattle.device_play.proofs.Keeping.{IsAt, call_keeps, boot_counts}
 use Rattle.device_play.proofs.Runs.{plan_world-append, can_follow-append}
@@ -35,26 +36,26 @@ calls_lead scale n b lane k (c ∷ cs) w is =
 
 blocks_lead : (scale : Scale) (n b : ℕ) (earlier ls : List Lane) → Leads scale n n (block_plan b earlier ls)
 blocks_lead scale n b earlier [] w is = (tt, is)
-blocks_lead scale n b earlier (l ∷ ls) =
+blocks_lead scale n b earlier (l ∷ ls) w is =
     leads-append scale n n n (call_plan b l.number (length (lane_calls l.number earlier)) l.calls)
     (block_plan b (earlier ++ l ∷ []) ls)
     (calls_lead scale n b l.number (length (lane_calls l.number earlier)) l.calls)
-    (blocks_lead scale n b (earlier ++ l ∷ []) ls)
+    (blocks_lead scale n b (earlier ++ l ∷ []) ls) w is
 
 segments_lead : (scale : Scale) (n b : ℕ) (earlier : List Lane) (ss : List Segment)
     → Leads scale n n (segment_plan b earlier ss)
 segments_lead scale n b earlier [] w is = (tt, is)
-segments_lead scale n b earlier (s ∷ ss) =
+segments_lead scale n b earlier (s ∷ ss) w is =
     leads-append scale n n n (block_plan b earlier s.lanes) (segment_plan b (earlier ++ s.lanes) ss)
     (blocks_lead scale n b earlier s.lanes)
-    (segments_lead scale n b (earlier ++ s.lanes) ss)
+    (segments_lead scale n b (earlier ++ s.lanes) ss) w is
 
 boot_leads : (scale : Scale) (n b : ℕ) (boot : ScriptBoot) → IsOrdered scale boot → n + 1 < 2 ^ 32
     → Leads scale n (n + 1) (boot_plan b boot)
 boot_leads scale n b boot ordered few w is =
     let next = boot_counts scale n w boot.order (all_mount_but boot.mounts) is in
     let (rest, end) = segments_lead scale (n + 1) b [] boot.segments _ next in
-    let can = record {
+    let can : CanBoot w boot.order = record {
       scale = ordered.scaled ∙ sym is.0;
       is_order = ordered.order;
       number = omega (arith, is.1, few);
@@ -64,12 +65,12 @@ boot_leads scale n b boot ordered few w is =
 boots_lead : (scale : Scale) (n : ℕ) (bs : List ScriptBoot) → AllByRecursion (IsOrdered scale) bs
     → n + length bs < 2 ^ 32 → Leads scale n (n + length bs) (boots_plan n bs)
 boots_lead scale n [] ordered few w is = (tt, subst (λ m. IsAt scale m w) (omega arith) is)
-boots_lead scale n (b ∷ bs) ordered few =
+boots_lead scale n (b ∷ bs) ordered few w is =
     let rest : Leads scale (n + 1) (n + length (b ∷ bs)) (boots_plan (n + 1) bs) =
     subst (λ m. Leads scale (n + 1) m (boots_plan (n + 1) bs)) (omega arith)
     (boots_lead scale (n + 1) bs ordered.1 (omega (arith, few))) in
     leads-append scale n (n + 1) (n + length (b ∷ bs)) (boot_plan (n + 1) b) (boots_plan (n + 1) bs)
-    (boot_leads scale n (n + 1) b ordered.0 (omega (arith, few))) rest
+    (boot_leads scale n (n + 1) b ordered.0 (omega (arith, few))) rest w is
 
 pub script_can : (script : Script) → HasOrders script → length script.boots < 2 ^ 32
     → CanFollow (empty_world script.scale) (boots_plan 0 script.boots)

@@ -159,6 +159,10 @@ pub Stopped-at : (whole a here rest : List Planned) (s t u : Stage) → whole �
 Stopped-at whole a here rest s t u same p q =
     Stopped-of _ _ s u same (Stopped-more a (here ++ rest) s t u p (Stopped-front here rest t u q))
 
+-- the first steps can be played where all can
+pub can_play-front : (a b : List Planned) (d : Device) → CanPlay (a ++ b) d → CanPlay a d
+can_play-front a b d can = let (w, both) = can in (w, (both.0, (can_follow-parts w a b both.1).0))
+
 -- a part can be played where the whole could, and the earlier parts were
 pub can_play-at : (whole a here rest : List Planned) (s t : Stage) → whole ≡ a ++ (here ++ rest) → Went a s t
     → CanPlay whole s.device → CanPlay here t.device

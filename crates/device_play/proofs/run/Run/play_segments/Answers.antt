@@ -5,8 +5,8 @@ use Rattle.device_play.proofs.Runs.{Stopped-at, Went-next, ran_err, segment_plan
 use Rattle.device_play.proofs.Steps.{few_of, step_at}
 use Rattle.device_play.proofs.run.Run.play_segments.Goals as goal
 
-pub play_step-requires-clause-place : goal.play_step-requires-clause-place
-play_step-requires-clause-place g c = few_of _ _ c.loop-at.at c.forms-step-items.ensures (omega arith)
+pub play_step-requires-clause-there : goal.play_step-requires-clause-there
+play_step-requires-clause-there g c = few_of _ _ c.loop-at.at c.forms-step-items.ensures (omega arith)
 
 pub play_step-requires-clause-here : goal.play_step-requires-clause-here
 play_step-requires-clause-here g c =
