@@ -5,7 +5,7 @@ use Rattle.std.specs.FinMap as fin
 use Rattle.std.specs.FinMap.{len-entries, len-empty}
 use Rattle.apex_base.specs.declared.numbers.Scale.{Scale}
 use Rattle.apex_base.specs.Keys.{Key, Boots, DataOf, WatchOf, RowMap, rows_by}
-use Rattle.apex_base.specs.Tables.{NameMap, Table}
+use Rattle.apex_base.specs.Tables.{NameMap}
 use Rattle.apex_core.specs.Core.{IsStored}
 use Rattle.apex_world.specs.Rows.{rows, row_at, table_keys}
 use Rattle.apex_world.specs.World.{empty_world}

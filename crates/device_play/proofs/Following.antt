@@ -1,5 +1,5 @@
 -- The steps of a script can happen to an empty world: `script_can`.
-use Rattle.std.proofs.Common.{◌≡◌, ℕ, ◌+◌, ◌<◌, ◌^◌, List, [], ◌∷◌, ◌++◌, length, refl, subst, sym, arith, ◌∙◌}
+use Rattle.std.proofs.Common.{ℕ, ◌+◌, ◌<◌, ◌^◌, List, [], ◌∷◌, ◌++◌, length, refl, subst, sym, arith, ◌∙◌}
 use Rattle.std.specs.List.{AllByRecursion}
 use Rattle.std.proofs.lemmas.List.Elements.{recursion_from_All}
 use Rattle.apex_base.specs.declared.numbers.Scale.{Scale}
@@ -11,7 +11,7 @@ use Rattle.apex_world.specs.declared.script.Segment.{Segment}
 use Rattle.apex_world.specs.Orders.{HasOrders, IsOrdered}
 use Rattle.apex_world.specs.Selection.{all_mount_but}
 use Rattle.apex_world.specs.Turns.{lane_calls}
-use Rattle.apex_world.specs.World.{World, empty_world}
+use Rattle.apex_world.specs.World.{World, boots, empty_world}
 use Rattle.device_play.specs.Events.{CanBoot}
 use Rattle.device_play.specs.Run.{Planned, CanFollow, plan_world, call_plan, block_plan, segment_plan, boot_plan, boots_plan}
 use Rattle.device_play.proofs.Keeping.{IsAt, call_keeps, boot_counts}
@@ -53,12 +53,13 @@ segments_lead scale n b earlier (s ∷ ss) w is =
 boot_leads : (scale : Scale) (n b : ℕ) (boot : ScriptBoot) → IsOrdered scale boot → n + 1 < 2 ^ 32
     → Leads scale n (n + 1) (boot_plan b boot)
 boot_leads scale n b boot ordered few w is =
+    let number : boots w + 1 < 2 ^ 32 = omega (arith, is.1, few) in
     let next = boot_counts scale n w boot.order (all_mount_but boot.mounts) is in
     let (rest, end) = segments_lead scale (n + 1) b [] boot.segments _ next in
     let can : CanBoot w boot.order = record {
       scale = ordered.scaled ∙ sym is.0;
       is_order = ordered.order;
-      number = omega (arith, is.1, few);
+      number = number;
     } in
     ((can, rest), end)
 

@@ -1,6 +1,6 @@
 -- Calls keep a world's scale and the number of its boots (`call_keeps`), and a boot counts one more (`boot_counts`).
 use Rattle.std.proofs.Common.{◌≡◌, ℕ, ◌+◌, Bool, true, false, cond, Option, Some, None, Result, Ok, Err, IfOk, max}
-use Rattle.std.proofs.Common.{length, ◌∷◌, [], ◌++◌, List, map, find, is_some, ap, ◌∙◌}
+use Rattle.std.proofs.Common.{◌∷◌, [], ◌++◌, List, map, find, is_some, ap, ◌∙◌}
 use Rattle.std.specs.FinMap as fin
 use Rattle.std.specs.List.{list_any}
 use Rattle.std.proofs.lemmas.List.{length-append}

@@ -13,7 +13,7 @@ use Rattle.apex_world.specs.World.{World}
 use Rattle.apex_world.specs.Fold.{Event, turned_by}
 use Rattle.apex_world.specs.Text.{turn_lines}
 use Rattle.apex_world.specs.Turns.{lane_calls}
-use Rattle.apex_base.specs.Outside.{PutFront, PutAll, Puts}
+use Rattle.apex_base.specs.Outside.{PutFront, Puts}
 use Rattle.play_text.specs.declared.put.PutFailed.{PutFailed}
 use Rattle.device_play.specs.declared.device.Device.{Device}
 use Rattle.device_play.specs.Device.{IsDeviceOf}

@@ -1,5 +1,4 @@
 -- Which worlds a device may be of: docs/rows.md, "A core".
-use Rattle.std.specs.Prelude.{◌≡◌}
 use Rattle.apex_core.specs.Core.{IsStored, StandsFor}
 use Rattle.apex_world.specs.World.{World}
 use Rattle.device_play.specs.declared.device.Device.{Device}

@@ -1,4 +1,4 @@
-use Rattle.std.proofs.Common.{◌<◌, ◌+◌, ◌^◌, ◌∙◌, length, drop, sym, subst, refl, arith}
+use Rattle.std.proofs.Common.{◌<◌, ◌+◌, ◌^◌, length, drop, sym, subst, arith}
 use Rattle.apex_world.specs.Playable.{IsPlayableBoot}
 use Rattle.device_play.specs.Run.{boot_plan, boots_plan}
 use Rattle.play_text.proofs.Puts.{faults_more}

@@ -1,4 +1,4 @@
-use Rattle.std.proofs.Common.{◌≡◌, ◌++◌, take, Ok}
+use Rattle.std.proofs.Common.{◌++◌, take, Ok}
 use Rattle.play_text.specs.Put.{HasSinkCause}
 use Rattle.device_play.specs.Device.{IsOn}
 use Rattle.device_play.specs.Run.{Went, block_plan}

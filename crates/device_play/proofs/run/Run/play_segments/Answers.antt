@@ -1,4 +1,4 @@
-use Rattle.std.proofs.Common.{◌≡◌, ◌<◌, ◌∙◌, length, get_or, refl, arith}
+use Rattle.std.proofs.Common.{◌≡◌, ◌<◌, length, get_or, refl, arith}
 use Rattle.apex_world.specs.Segments.{segment_of}
 use Rattle.play_text.proofs.Puts.{faults_more}
 use Rattle.device_play.proofs.Runs.{Stopped-at, Went-next, ran_err, segment_plan_at, segment_plan_next}
