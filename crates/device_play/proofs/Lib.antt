@@ -3,6 +3,7 @@ pub mod EmptyStores
 pub mod Following
 pub mod Keeping
 pub mod Ordered
+pub mod Places
 pub mod Plans
 pub mod PlayedLemmas
 pub mod Runs

@@ -2,7 +2,8 @@ use Rattle.std.proofs.Common.{◌<◌, ◌+◌, ◌^◌, length, drop, sym, subs
 use Rattle.apex_world.specs.Playable.{IsPlayableBoot}
 use Rattle.device_play.specs.Run.{boot_plan, boots_plan}
 use Rattle.play_text.proofs.Puts.{faults_more}
-use Rattle.device_play.proofs.Runs.{Stopped-at, Went-next, can_play-at, ran_err, boots_plan_at, boots_plan_next}
+use Rattle.device_play.proofs.Places.{boots_plan_at, boots_plan_next}
+use Rattle.device_play.proofs.Runs.{Stopped-at, Went-next, can_play-at, ran_err}
 use Rattle.device_play.proofs.run.Run.play_boots.Goals as goal
 
 pub play_boot_and_calls-requires-clause-playable : goal.play_boot_and_calls-requires-clause-playable

@@ -1,6 +1,7 @@
 use Rattle.std.proofs.Common.{refl, ◌≡◌, ◌<◌, ◌+◌, get_or, length, ap, arith}
 use Rattle.play_text.proofs.Puts.{faults_more}
-use Rattle.device_play.proofs.Runs.{Stopped-at, Went-next, ran_err, call_plan_at, call_plan_next}
+use Rattle.device_play.proofs.Places.{call_plan_at, call_plan_next}
+use Rattle.device_play.proofs.Runs.{Stopped-at, Went-next, ran_err}
 use Rattle.device_play.proofs.run.Run.play_lane.Goals as goal
 
 pub returns-in_err-play_call-clause-ran : goal.returns-in_err-play_call-clause-ran

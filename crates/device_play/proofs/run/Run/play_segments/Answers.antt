@@ -1,7 +1,8 @@
 use Rattle.std.proofs.Common.{◌≡◌, ◌<◌, length, get_or, refl, arith}
 use Rattle.apex_world.specs.Segments.{segment_of}
 use Rattle.play_text.proofs.Puts.{faults_more}
-use Rattle.device_play.proofs.Runs.{Stopped-at, Went-next, ran_err, segment_plan_at, segment_plan_next}
+use Rattle.device_play.proofs.Places.{segment_plan_at, segment_plan_next}
+use Rattle.device_play.proofs.Runs.{Stopped-at, Went-next, ran_err}
 use Rattle.device_play.proofs.Steps.{few_of, step_at}
 use Rattle.device_play.proofs.run.Run.play_segments.Goals as goal
 
