@@ -1,6 +1,5 @@
 -- Runs one after another. Callers want `ran_one`, `ran_more`, `ran_err`, `Went-next`, `Stopped-at` and `can_play-at`.
-use Rattle.std.proofs.Common.{◌≡◌, ℕ, List, [], ◌∷◌, ◌++◌, Result}
-use Rattle.std.proofs.Common.{Ok, Err, sym, ap, ◌∙◌, subst, refl, append_assoc}
+use Rattle.std.proofs.Common.{◌≡◌, ℕ, List, [], ◌∷◌, ◌++◌, Result, Ok, Err, sym, ap, ◌∙◌, subst, refl, append_assoc}
 use Rattle.std.specs.Result.{IsErr}
 use Rattle.std.proofs.lemmas.List.{append-nil}
 use Rattle.std.proofs.lemmas.List.Sums.{fold-append}
@@ -15,8 +14,7 @@ use Rattle.device_play.specs.declared.device.Device.{Device}
 use Rattle.device_play.specs.Device.{IsDeviceOf}
 use Rattle.device_play.specs.Events.{CanHappen}
 use Rattle.device_play.specs.Run.{Planned, Stage, CanFollow, CanPlay, WentFrom, StoppedFrom, Went, Stopped, Ran}
-use Rattle.device_play.specs.Run.{rows_of, plan_world, plan_lines}
-use Rattle.device_play.specs.Run.{block_plan}
+use Rattle.device_play.specs.Run.{rows_of, plan_world, plan_lines, block_plan}
 use Rattle.play_text.proofs.Puts.{PutAll-none, PutFront-none, PutAll-more, PutFront-more, PutAll-of, PutFront-of}
 
 -- Plans
@@ -36,7 +34,7 @@ rows_of-append : (a b : List Planned) → rows_of (a ++ b) ≡ rows_of a ++ rows
 rows_of-append [] b = refl
 rows_of-append (p ∷ a) b = ap (λ rows. p.row ∷ rows) (rows_of-append a b)
 
--- the steps of a front can happen, and the rest can after them
+-- where steps can happen, the first of them can, and the rest after them
 pub can_follow-parts : (w : World) (a b : List Planned) → CanFollow w (a ++ b)
     → CanFollow w a × CanFollow (plan_world w a) b
 can_follow-parts w [] b can = (tt, can)
@@ -44,6 +42,7 @@ can_follow-parts w (p ∷ a) b can =
     let (front, rest) = can_follow-parts (turned_by w p.event).world a b can.1 in
     ((can.0, front), rest)
 
+-- and the other way round
 pub can_follow-append : (w : World) (a b : List Planned) → CanFollow w a → CanFollow (plan_world w a) b
     → CanFollow w (a ++ b)
 can_follow-append w [] b front rest = rest

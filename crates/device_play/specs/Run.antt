@@ -95,7 +95,8 @@ pub record StoppedFrom (w : World) (plan : List Planned) (s s' : Stage) : Type 0
   pub turns : s'.turns ≡ s.turns ++ rows_of front
   pub put : PutFront s.held s'.held (plan_lines w front)
 
--- nothing but the device tells the worlds apart that a run may have, so each is spoken of to which the steps can happen
+-- A device may be of several worlds: one without rows is of an empty world of either scale. What is said of a run holds
+-- from each of them on to which the steps can happen.
 
 abbrev pub Went : List Planned → Stage → Stage → Type 0
 Went plan s s' = (w : World) → IsDeviceOf s.device w → CanFollow w plan → WentFrom w plan s s'

@@ -1,4 +1,4 @@
-//! A device: which boots and calls happen to it, and what is left of it in between.
+//! A device: boots and calls happen to it, and from one boot to the next nothing but its rows is kept.
 ghost use Rattle.std.specs.Prelude.{◌≡◌, [], IfOk, OnOk, OnErr, IsTrue};
 ghost use Rattle.apex_base.specs.Ranges.{IsMillis};
 ghost use Rattle.apex_base.specs.Text.{is_print};
@@ -18,7 +18,7 @@ use row_map::Rows;
 use std::alloc::{AllocError, Global};
 use std::mem;
 
-/// A device. While it is off, its rows are all there is of it.
+/// A device that is off, of which there are only the rows, or one that is on.
 #[derive(Drop)]
 pub enum Device {
     Off(Rows),
@@ -26,14 +26,14 @@ pub enum Device {
 }
 
 impl Device {
-    /// A device that was never booted, of any scale. It has no rows.
+    /// A device that was never booted. It has no rows, and may be of either scale.
     pub fn new(alloc: Global) -> Self
         ensures { (scale : Scale) → IsDeviceOf result (empty_world scale) }
     {
         Device::Off(Rows::new(alloc))
     }
 
-    /// The rows, of which nothing but a boot makes a running device again.
+    /// The rows alone.
     fn into_rows(self) -> Rows
         ensures { (w : World) → IsDeviceOf self w → IsStored result w }
     {
@@ -65,7 +65,7 @@ impl Device {
         Ok(reply)
     }
 
-    /// A call happens to a device that is on. Where memory runs out, it is of the worlds that it was of.
+    /// A call happens to a device that is on. After an error it may be of the worlds that it was of before.
     pub fn act(&mut self, alloc: Global, call: &CallRef) -> Result<Reply, AllocError>
         requires on { IsOn self.old }
         requires built { IsBuilt (call_at call.now) }
