@@ -14,7 +14,7 @@ use Rattle.apex_world.specs.Playable.{IsBuilt, IsPlayableBoot, IsPlayableSegment
 use Rattle.apex_world.specs.Segments.{plain_segment}
 use Rattle.apex_world.specs.Turns.{lane_calls}
 use Rattle.device_play.specs.Stages.{HasCounts}
-use Rattle.device_play.proofs.Runs.{whole_of, lanes_of, next_of}
+use Rattle.device_play.proofs.Places.{whole_of, lanes_of, next_of}
 
 lane_calls-append : (n : ℕ) (a b : List Lane) → lane_calls n (a ++ b) ≡ lane_calls n a ++ lane_calls n b
 lane_calls-append n a b = flat_map-append (λ (l : Lane). cond (eqb l.number n) l.calls []) a b

@@ -1,4 +1,9 @@
 pub mod Counts
+pub mod EmptyStores
+pub mod Following
+pub mod Keeping
+pub mod Ordered
+pub mod Places
 pub mod Plans
 pub mod PlayedLemmas
 pub mod Runs

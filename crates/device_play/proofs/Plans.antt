@@ -23,7 +23,7 @@ use Rattle.apex_world.specs.Turns.{boot_rounds, rounds_from, positions, IsInOrde
 use Rattle.apex_world.proofs.TurnLemmas.{in_order, fits}
 use Rattle.device_play.specs.Run.{Planned, rows_of, planned_call, call_plan, block_plan, segment_plan, boot_plan}
 use Rattle.device_play.specs.Run.{boots_plan, plan_lines}
-use Rattle.device_play.proofs.Runs.{lanes_of}
+use Rattle.device_play.proofs.Places.{lanes_of}
 
 -- Positions
 

@@ -1,3 +1,5 @@
+pub mod Device
+pub mod Events
 pub mod Headline
 pub mod Played
 pub mod Run

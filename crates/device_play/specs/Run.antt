@@ -12,6 +12,9 @@ use Rattle.apex_world.specs.Fold.{Event, BootOf, CallOf, turned_by}
 use Rattle.apex_world.specs.Text.{turn_lines}
 use Rattle.apex_world.specs.Turns.{lane_calls}
 use Rattle.play_text.specs.declared.put.PutFailed.{PutFailed}
+use Rattle.device_play.specs.declared.device.Device.{Device}
+use Rattle.device_play.specs.Device.{IsDeviceOf}
+use Rattle.device_play.specs.Events.{CanHappen}
 
 -- a turn that is to come, with what the script says there
 pub record Planned : Type 0 where
@@ -63,25 +66,43 @@ abbrev pub plan_lines : World → List Planned → List ℕ
 plan_lines w [] = []
 plan_lines w (p ∷ ps) = turn_lines p.row (turned_by w p.event).shown ++ plan_lines (turned_by w p.event).world ps
 
--- where a run stands: its world, what the sink holds, and its turns
+-- each step can happen to the world that the earlier ones lead to
+abbrev pub CanFollow : World → List Planned → Type 0
+CanFollow w [] = Unit {0}
+CanFollow w (p ∷ ps) = CanHappen w p.event × CanFollow (turned_by w p.event).world ps
+
+-- there is a world that the device may be of, and to which the steps can happen
+abbrev pub CanPlay : List Planned → Device → Type 0
+CanPlay plan device = (w : World) × (IsDeviceOf device w × CanFollow w plan)
+
+-- where a run stands: its device, what the sink holds, and its turns
 pub record Stage : Type 0 where
-  pub world : World
+  pub device : Device
   pub held : Option (List ℕ)
   pub turns : List TurnRow
 
--- the run made these steps, and put their lines
-pub record Went (plan : List Planned) (s s' : Stage) : Type 0 where
+-- the run made these steps from a world on, and put their lines
+pub record WentFrom (w : World) (plan : List Planned) (s s' : Stage) : Type 0 where
   pub turns : s'.turns ≡ s.turns ++ rows_of plan
-  pub world : s'.world ≡ plan_world s.world plan
-  pub put : PutAll s.held s'.held (plan_lines s.world plan)
+  pub leads : IsDeviceOf s'.device (plan_world w plan)
+  pub put : PutAll s.held s'.held (plan_lines w plan)
 
 -- the run entered the first of these steps, and put a front of their lines
-pub record Stopped (plan : List Planned) (s s' : Stage) : Type 0 where
+pub record StoppedFrom (w : World) (plan : List Planned) (s s' : Stage) : Type 0 where
   pub front : List Planned
   pub rest : List Planned
   pub split : plan ≡ front ++ rest
   pub turns : s'.turns ≡ s.turns ++ rows_of front
-  pub put : PutFront s.held s'.held (plan_lines s.world front)
+  pub put : PutFront s.held s'.held (plan_lines w front)
+
+-- A device may be of several worlds: one without rows is of an empty world of either scale. What is said of a run holds
+-- from each of them on to which the steps can happen.
+
+abbrev pub Went : List Planned → Stage → Stage → Type 0
+Went plan s s' = (w : World) → IsDeviceOf s.device w → CanFollow w plan → WentFrom w plan s s'
+
+abbrev pub Stopped : List Planned → Stage → Stage → Type 0
+Stopped plan s s' = (w : World) → IsDeviceOf s.device w → CanFollow w plan → StoppedFrom w plan s s'
 
 -- what a call that plays steps leaves
 abbrev pub Ran : {T : Type 0} → Result T PutFailed → List Planned → Stage → Stage → Type 0

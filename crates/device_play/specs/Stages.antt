@@ -5,12 +5,11 @@ use Rattle.apex_world.specs.declared.script.Segment.{Segment}
 use Rattle.apex_world.specs.declared.script.ScriptBoot.{ScriptBoot}
 use Rattle.apex_world.specs.Turns.{lane_calls}
 use Rattle.device_play.specs.declared.run.Run.{Run}
-use Rattle.plain_world.specs.Plain.{world_of}
 use Rattle.play_text.specs.declared.put.PutFailed.{PutFailed}
 use Rattle.device_play.specs.Run.{Planned, Stage, Ran}
 
 abbrev pub stage_of : Run → Option (List ℕ) → Stage
-stage_of run held = record { world = world_of run.world; held = held; turns = run.turns.items }
+stage_of run held = record { device = run.device; held = held; turns = run.turns.items }
 
 -- what a call that plays steps makes of a run and its sink
 abbrev pub Plays : {S T : Type 0} → (S → Option (List ℕ)) → List Planned → Result T PutFailed → Run → S → Run → S

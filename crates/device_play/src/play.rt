@@ -108,7 +108,7 @@ pub fn apex_play<S: Source, K: Sink, G: Gate>(
         Err(ScriptWhy::NoMemory) => return refused(alloc, Status::Memory),
         Ok(script) => script,
     };
-    let mut run = Run::start(alloc, script.scale);
+    let mut run = Run::start(alloc);
     let status = match run.play_script(alloc, sink, &script) {
         Err(PutFailed::Sink) => Status::SinkFault,
         Err(PutFailed::NoMemory) => Status::Memory,

@@ -1,37 +1,36 @@
 //! A run: what it keeps, and how a turn enters its history. `enter_turn` is the commit point.
+use crate::device::Device;
 use crate::mounts::AllBut;
-use apex_base::Scale;
 use apex_world::{BootReply, CallRef, Reply, ScriptBoot, TurnRow, Turns};
-use plain_world::PlainWorld;
 use play_text::TurnText;
 use std::alloc::{AllocError, Global};
 
-/// A run so far: its world, its turns, and what puts their lines.
+/// A run so far: its device, its turns, and what puts their lines.
 #[derive(Drop)]
 pub struct Run {
-    pub(crate) world: PlainWorld,
+    pub(crate) device: Device,
     pub(crate) turns: Vec<TurnRow>,
     pub(crate) text: TurnText,
 }
 
 impl Run {
     ghost use Rattle.std.specs.Prelude.{◌≡◌, ◌<◌, ◌+◌, ◌++◌, ◌^◌, ◌∷◌, [], IfOk, OnErr, OnOk, vec_capacity, vec_len};
+    ghost use Rattle.apex_base.specs.declared.numbers.Scale.{Scale};
     ghost use Rattle.apex_world.specs.declared.turns.Shown.TheVariants.{Booted, Replied};
     ghost use Rattle.apex_world.specs.Calls.{call_at};
     ghost use Rattle.apex_world.specs.Fold.{BootOf, CallOf, turned_by};
     ghost use Rattle.apex_world.specs.Playable.{IsBuilt};
-    ghost use Rattle.apex_world.specs.World.{empty_world};
-    ghost use Rattle.plain_world.specs.Plain.{world_of, boots_of, IsWithinScale};
+    ghost use Rattle.apex_world.specs.World.{World, empty_world};
+    ghost use Rattle.device_play.specs.Device.{IsDeviceOf, IsOn};
+    ghost use Rattle.device_play.specs.Events.{CanBoot};
 
     /// A run of which nothing is played yet.
-    pub fn start(alloc: Global, scale: Scale) -> Self
-        ensures world { world_of result.world ≡ empty_world scale }
-        ensures boots { boots_of result.world ≡ 0 }
+    pub fn start(alloc: Global) -> Self
+        ensures device { (scale : Scale) → IsDeviceOf result.device (empty_world scale) }
         ensures turns { result.turns.items ≡ [] }
-        ensures within { IsWithinScale result.world }
     {
         Run {
-            world: PlainWorld::new(alloc, scale),
+            device: Device::new(alloc),
             turns: Vec::new(alloc),
             text: TurnText::new(alloc),
         }
@@ -53,16 +52,17 @@ impl Run {
         call: &CallRef,
     ) -> Result<Reply, AllocError>
         requires built { IsBuilt (call_at call.now) }
-        requires within { IsWithinScale self.old.world }
-        ensures reply { IfOk result (λ reply. Replied reply ≡ (turned_by (world_of self.old.world) (CallOf (call_at call.now))).shown) }
-        ensures world { OnOk result (world_of self.new.world ≡ (turned_by (world_of self.old.world) (CallOf (call_at call.now))).world) }
+        requires on { IsOn self.old.device }
+        ensures reply { (w : World) → IsDeviceOf self.old.device w
+            → IfOk result (λ reply. Replied reply ≡ (turned_by w (CallOf (call_at call.now))).shown) }
+        ensures leads { (w : World) → IsDeviceOf self.old.device w
+            → OnOk result (IsDeviceOf self.new.device (turned_by w (CallOf (call_at call.now))).world) }
         ensures turn { OnOk result (self.new.turns.items ≡ self.old.turns.items ++ row ∷ []) }
         ensures no_turn { OnErr result (self.new.turns.items ≡ self.old.turns.items) }
-        ensures boots { boots_of self.new.world ≡ boots_of self.old.world }
-        ensures within { OnOk result (IsWithinScale self.new.world) }
+        ensures on { OnOk result (IsOn self.new.device) }
     {
         self.turns.reserve(1)?;
-        let reply = self.world.act(alloc, call)?;
+        let reply = self.device.act(alloc, call)?;
         self.enter_turn(row);
         Ok(reply)
     }
@@ -74,21 +74,21 @@ impl Run {
         row: TurnRow,
         boot: &ScriptBoot,
     ) -> Result<BootReply, AllocError>
-        requires few { boots_of self.old.world + 1 < 2 ^ 32 }
+        requires can { (w : World) × (IsDeviceOf self.old.device w × CanBoot w boot.now.order) }
         requires alone { boot.now.order.observers ≡ [] }
-        requires within { IsWithinScale self.old.world }
-        ensures reply { IfOk result (λ reply. Booted reply ≡ (turned_by (world_of self.old.world) (BootOf boot.now)).shown) }
-        ensures world { OnOk result (world_of self.new.world ≡ (turned_by (world_of self.old.world) (BootOf boot.now)).world) }
+        ensures reply { (w : World) → IsDeviceOf self.old.device w → CanBoot w boot.now.order
+            → IfOk result (λ reply. Booted reply ≡ (turned_by w (BootOf boot.now)).shown) }
+        ensures leads { (w : World) → IsDeviceOf self.old.device w → CanBoot w boot.now.order
+            → OnOk result (IsDeviceOf self.new.device (turned_by w (BootOf boot.now)).world) }
         ensures turn { OnOk result (self.new.turns.items ≡ self.old.turns.items ++ row ∷ []) }
         ensures no_turn { OnErr result (self.new.turns.items ≡ self.old.turns.items) }
-        ensures boots { OnOk result (boots_of self.new.world ≡ boots_of self.old.world + 1) }
-        ensures within { OnOk result (IsWithinScale self.new.world) }
+        ensures on { OnOk result (IsOn self.new.device) }
     {
         let mounter = AllBut {
             modules: boot.mounts.as_slice(),
         };
         self.turns.reserve(1)?;
-        let reply = self.world.boot(alloc, &boot.order, &mounter)?;
+        let reply = self.device.boot(alloc, &boot.order, &mounter)?;
         self.enter_turn(row);
         Ok(reply)
     }
@@ -98,7 +98,7 @@ impl Run {
     fn enter_turn(&mut self, row: TurnRow)
         requires room { vec_len self.old.turns < vec_capacity self.old.turns }
         ensures turns { self.new.turns.items ≡ self.old.turns.items ++ row ∷ [] }
-        ensures world { self.new.world ≡ self.old.world }
+        ensures device { self.new.device ≡ self.old.device }
     {
         self.turns.push_reserved(row);
     }

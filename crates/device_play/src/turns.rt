@@ -15,10 +15,11 @@ impl Run {
     ghost use Rattle.apex_world.specs.Playable.{IsBuilt, IsPlayable, IsPlayableBoot, IsPlayableLane};
     ghost use Rattle.apex_world.specs.Segments.{plain_segment, segment_of};
     ghost use Rattle.apex_world.specs.World.{empty_world};
-    ghost use Rattle.plain_world.specs.Plain.{world_of, boots_of, IsWithinScale};
+    ghost use Rattle.apex_world.specs.Orders.{HasOrders};
     ghost use Rattle.play_text.specs.Put.{HasSinkCause};
+    ghost use Rattle.device_play.specs.Device.{IsDeviceOf, IsOn};
     ghost use Rattle.device_play.specs.Played.{HasPlayed};
-    ghost use Rattle.device_play.specs.Run.{planned_boot, planned_call, call_plan, block_plan, segment_plan, boot_plan, boots_plan};
+    ghost use Rattle.device_play.specs.Run.{CanPlay, planned_boot, planned_call, call_plan, block_plan, segment_plan, boot_plan, boots_plan};
     ghost use Rattle.device_play.specs.Stages.{Plays, HasCounts, blocks_before};
 
     /// A script from its start to its last line.
@@ -29,10 +30,9 @@ impl Run {
         script: &Script,
     ) -> Result<(), PutFailed>
         requires playable { IsPlayable script.now }
-        requires world { world_of self.old.world ≡ empty_world script.now.scale }
-        requires boots { boots_of self.old.world ≡ 0 }
+        requires orders { HasOrders script.now }
+        requires device { IsDeviceOf self.old.device (empty_world script.now.scale) }
         requires turns { self.old.turns.items ≡ [] }
-        requires within { IsWithinScale self.old.world }
         ensures played { HasPlayed result script.now (K.held sink.old) (K.held sink.new) self.new.turns.items }
         ensures faults { HasSinkCause result (K.faults sink.old) (K.faults sink.new) }
     {
@@ -49,8 +49,7 @@ impl Run {
     ) -> Result<(), PutFailed>
         requires few { length boots.now < 2 ^ 32 }
         requires playable { All (IsPlayableBoot (2 ^ 32)) boots.now }
-        requires fresh { boots_of self.old.world ≡ 0 }
-        requires within { IsWithinScale self.old.world }
+        requires can { CanPlay (boots_plan 0 boots.now) self.old.device }
         ensures ran { Plays K.held (boots_plan 0 boots.now) result self.old sink.old self.new sink.new }
         ensures faults { HasSinkCause result (K.faults sink.old) (K.faults sink.new) }
     {
@@ -70,12 +69,10 @@ impl Run {
         boot: &ScriptBoot,
     ) -> Result<(), PutFailed>
         requires playable { IsPlayableBoot (2 ^ 32) boot.now }
-        requires boots { boots_of self.old.world + 1 < 2 ^ 32 }
-        requires within { IsWithinScale self.old.world }
+        requires can { CanPlay (boot_plan number boot.now) self.old.device }
         ensures ran { Plays K.held (boot_plan number boot.now) result self.old sink.old self.new sink.new }
         ensures faults { HasSinkCause result (K.faults sink.old) (K.faults sink.new) }
-        ensures boots { IsOk result → boots_of self.new.world ≡ boots_of self.old.world + 1 }
-        ensures within { IsOk result → IsWithinScale self.new.world }
+        ensures on { IsOk result → IsOn self.new.device }
     {
         self.play_boot(alloc, sink, number, boot)?;
         self.play_segments(alloc, sink, number, boot)
@@ -89,13 +86,11 @@ impl Run {
         number: u32,
         boot: &ScriptBoot,
     ) -> Result<(), PutFailed>
-        requires few { boots_of self.old.world + 1 < 2 ^ 32 }
+        requires can { CanPlay (planned_boot number boot.now ∷ []) self.old.device }
         requires alone { boot.now.order.observers ≡ [] }
-        requires within { IsWithinScale self.old.world }
         ensures ran { Plays K.held (planned_boot number boot.now ∷ []) result self.old sink.old self.new sink.new }
         ensures faults { HasSinkCause result (K.faults sink.old) (K.faults sink.new) }
-        ensures boots { IsOk result → boots_of self.new.world ≡ boots_of self.old.world + 1 }
-        ensures within { IsOk result → IsWithinScale self.new.world }
+        ensures on { IsOk result → IsOn self.new.device }
     {
         let row = TurnRow {
             boot: number,
@@ -116,11 +111,10 @@ impl Run {
         boot: &ScriptBoot,
     ) -> Result<(), PutFailed>
         requires playable { IsPlayableBoot (2 ^ 32) boot.now }
-        requires within { IsWithinScale self.old.world }
+        requires on { IsOn self.old.device }
         ensures ran { Plays K.held (segment_plan number [] boot.now.segments) result self.old sink.old self.new sink.new }
         ensures faults { HasSinkCause result (K.faults sink.old) (K.faults sink.new) }
-        ensures boots { boots_of self.new.world ≡ boots_of self.old.world }
-        ensures within { IsOk result → IsWithinScale self.new.world }
+        ensures on { IsOk result → IsOn self.new.device }
     {
         let mut steps = [0; LANES];
         for (at, step) in boot.segments.forms().iter().enumerate() {
@@ -144,12 +138,11 @@ impl Run {
         requires there { at < length boot.now.segments }
         requires here { segment_of step.now ≡ get_or boot.now.segments at (segment_of step.now) }
         requires counts { HasCounts steps.old (blocks_before boot.now at) }
-        requires within { IsWithinScale self.old.world }
+        requires on { IsOn self.old.device }
         ensures ran { Plays K.held (block_plan number (blocks_before boot.now at) (segment_of step.now).lanes) result self.old sink.old self.new sink.new }
         ensures counts { IsOk result → HasCounts steps.new (blocks_before boot.now (at + 1)) }
         ensures faults { HasSinkCause result (K.faults sink.old) (K.faults sink.new) }
-        ensures boots { boots_of self.new.world ≡ boots_of self.old.world }
-        ensures within { IsOk result → IsWithinScale self.new.world }
+        ensures on { IsOk result → IsOn self.new.device }
     {
         match step.placed() {
             Placed::Plain(call) => { self.play_plain(alloc, sink, number, steps, boot, at, &call) }
@@ -174,12 +167,11 @@ impl Run {
         requires there { at < length boot.now.segments }
         requires here { plain_segment (call_at call.now) ≡ get_or boot.now.segments at (plain_segment (call_at call.now)) }
         requires counts { HasCounts steps.old (blocks_before boot.now at) }
-        requires within { IsWithinScale self.old.world }
+        requires on { IsOn self.old.device }
         ensures ran { Plays K.held (block_plan number (blocks_before boot.now at) (plain_segment (call_at call.now)).lanes) result self.old sink.old self.new sink.new }
         ensures counts { IsOk result → HasCounts steps.new (blocks_before boot.now (at + 1)) }
         ensures faults { HasSinkCause result (K.faults sink.old) (K.faults sink.new) }
-        ensures boots { boots_of self.new.world ≡ boots_of self.old.world }
-        ensures within { IsOk result → IsWithinScale self.new.world }
+        ensures on { IsOk result → IsOn self.new.device }
     {
         let step = steps[0] + 1;
         self.play_call(alloc, sink, number, 0, step, call)?;
@@ -202,12 +194,11 @@ impl Run {
         requires there { at < length boot.now.segments }
         requires here { segment.now ≡ get_or boot.now.segments at segment.now }
         requires counts { HasCounts steps.old (blocks_before boot.now at) }
-        requires within { IsWithinScale self.old.world }
+        requires on { IsOn self.old.device }
         ensures ran { Plays K.held (block_plan number (blocks_before boot.now at) segment.now.lanes) result self.old sink.old self.new sink.new }
         ensures counts { IsOk result → HasCounts steps.new (blocks_before boot.now (at + 1)) }
         ensures faults { HasSinkCause result (K.faults sink.old) (K.faults sink.new) }
-        ensures boots { boots_of self.new.world ≡ boots_of self.old.world }
-        ensures within { IsOk result → IsWithinScale self.new.world }
+        ensures on { IsOk result → IsOn self.new.device }
     {
         for lane in segment.lanes.as_slice() {
             let earlier = steps[lane.number as usize];
@@ -228,11 +219,10 @@ impl Run {
     ) -> Result<(), PutFailed>
         requires playable { IsPlayableLane lane.now }
         requires few { earlier + length lane.now.calls < 2 ^ 32 }
-        requires within { IsWithinScale self.old.world }
+        requires on { IsOn self.old.device }
         ensures ran { Plays K.held (call_plan boot lane.now.number earlier lane.now.calls) result self.old sink.old self.new sink.new }
         ensures faults { HasSinkCause result (K.faults sink.old) (K.faults sink.new) }
-        ensures boots { boots_of self.new.world ≡ boots_of self.old.world }
-        ensures within { IsOk result → IsWithinScale self.new.world }
+        ensures on { IsOk result → IsOn self.new.device }
     {
         let mut step = earlier;
         for call in lane.calls.as_slice() {
@@ -253,11 +243,10 @@ impl Run {
         call: &CallRef,
     ) -> Result<(), PutFailed>
         requires built { IsBuilt (call_at call.now) }
-        requires within { IsWithinScale self.old.world }
+        requires on { IsOn self.old.device }
         ensures ran { Plays K.held (planned_call boot lane step (call_at call.now) ∷ []) result self.old sink.old self.new sink.new }
         ensures faults { HasSinkCause result (K.faults sink.old) (K.faults sink.new) }
-        ensures boots { boots_of self.new.world ≡ boots_of self.old.world }
-        ensures within { IsOk result → IsWithinScale self.new.world }
+        ensures on { IsOk result → IsOn self.new.device }
     {
         let row = TurnRow {
             boot,

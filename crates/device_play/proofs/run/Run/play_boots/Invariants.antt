@@ -1,5 +1,4 @@
 use Rattle.std.proofs.Common.{◌≡◌, take, Ok}
-use Rattle.plain_world.specs.Plain.{IsWithinScale, boots_of}
 use Rattle.play_text.specs.Put.{HasSinkCause}
 use Rattle.device_play.specs.Run.{Went, boots_plan}
 use Rattle.device_play.specs.Stages.{stage_of}
@@ -11,7 +10,5 @@ invariant-loop-boot g l = record {
   went : Went (boots_plan 0 (take l.boot-index l.boots)) (stage_of l.fn.self (g.K.Sink.held l.fn.sink))
       (stage_of l.self (g.K.Sink.held l.sink));
   count : l.number ≡ l.boot-index;
-  counted : boots_of l.self.world ≡ l.boot-index;
   faults : HasSinkCause {T = Unit {0}} (Ok tt) (g.K.Sink.faults l.fn.sink) (g.K.Sink.faults l.sink);
-  within : IsWithinScale l.self.world;
 }

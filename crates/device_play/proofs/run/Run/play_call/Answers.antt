@@ -7,5 +7,6 @@ returns-in_err-reply-clause-ran g c =
     ran_err _ _ _ _ c.from_residual.ensures.0 (Stopped-none _ _ _ c.in_err-reply.ensures.no_turn refl)
 
 pub returns-clause-ran : goal.returns-clause-ran
-returns-clause-ran g c = ran_one _ _ _ _ c.in_ok-reply.ensures.turn c.in_ok-reply.ensures.world
-    (rw c.in_ok-reply.ensures.reply at c.reply_line.ensures.put)
+returns-clause-ran g c =
+    ran_one _ _ _ _ c.in_ok-reply.ensures.turn (λ w is can. c.in_ok-reply.ensures.leads w is)
+    (λ w is can. rw (c.in_ok-reply.ensures.reply w is) at c.reply_line.ensures.put)

@@ -1,6 +1,7 @@
-use Rattle.std.proofs.Common.{refl, ◌≡◌, ◌<◌, ◌+◌, ◌∙◌, get_or, length, ap, arith}
+use Rattle.std.proofs.Common.{refl, ◌≡◌, ◌<◌, ◌+◌, get_or, length, ap, arith}
 use Rattle.play_text.proofs.Puts.{faults_more}
-use Rattle.device_play.proofs.Runs.{Stopped-at, Went-next, ran_err, call_plan_at, call_plan_next}
+use Rattle.device_play.proofs.Places.{call_plan_at, call_plan_next}
+use Rattle.device_play.proofs.Runs.{Stopped-at, Went-next, ran_err}
 use Rattle.device_play.proofs.run.Run.play_lane.Goals as goal
 
 pub returns-in_err-play_call-clause-ran : goal.returns-in_err-play_call-clause-ran
@@ -28,6 +29,5 @@ loop-call-preserved g c =
           (rw c.borrowed.ensures at c.in_ok-play_call.ensures.ran);
       count = omega arith;
       faults = faults_more _ _ _ _ _ c.loop-call.invariant.faults c.in_ok-play_call.ensures.faults;
-      boots = c.in_ok-play_call.ensures.boots ∙ c.loop-call.invariant.boots;
-      within = c.in_ok-play_call.ensures.within refl;
+      on = c.in_ok-play_call.ensures.on refl;
     }

@@ -1,6 +1,6 @@
 use Rattle.std.proofs.Common.{◌≡◌, ◌+◌, take, Ok}
-use Rattle.plain_world.specs.Plain.{IsWithinScale}
 use Rattle.play_text.specs.Put.{HasSinkCause}
+use Rattle.device_play.specs.Device.{IsOn}
 use Rattle.device_play.specs.Run.{Went, call_plan}
 use Rattle.device_play.specs.Stages.{stage_of}
 use Rattle.device_play.proofs.run.Run.play_lane.Given as goal
@@ -12,6 +12,5 @@ invariant-loop-call g l = record {
       (stage_of l.fn.self (g.K.Sink.held l.fn.sink)) (stage_of l.self (g.K.Sink.held l.sink));
   count : l.step ≡ l.earlier + l.call-index;
   faults : HasSinkCause {T = Unit {0}} (Ok tt) (g.K.Sink.faults l.fn.sink) (g.K.Sink.faults l.sink);
-  boots : l.self.world.boots ≡ l.fn.self.world.boots;
-  within : IsWithinScale l.self.world;
+  on : IsOn l.self.device;
 }

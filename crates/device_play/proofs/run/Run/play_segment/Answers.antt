@@ -3,7 +3,8 @@ use Rattle.std.proofs.Common.{subst, append_assoc, arith}
 use Rattle.device_play.specs.Stages.{blocks_before, HasCounts}
 use Rattle.device_play.proofs.Counts.{counts_few, counts_more, lane_playable}
 use Rattle.play_text.proofs.Puts.{faults_more}
-use Rattle.device_play.proofs.Runs.{Stopped-at, Went-next, ran_err, block_plan_at, block_plan_next, next_of}
+use Rattle.device_play.proofs.Places.{block_plan_at, block_plan_next, next_of}
+use Rattle.device_play.proofs.Runs.{Stopped-at, Went-next, ran_err}
 use Rattle.device_play.proofs.run.Run.play_segment.Goals as goal
 
 pub bounds-steps-lane : goal.bounds-steps-lane
@@ -137,6 +138,5 @@ loop-lane-preserved g c =
       counts = subst (HasCounts (set steps l.number k)) (sym blocks)
           (counts_more steps (e ++ take j s.lanes) l k c.loop-lane.invariant.counts low is);
       faults = faults_more _ _ _ _ _ c.loop-lane.invariant.faults c.in_ok-play_lane.ensures.faults;
-      boots = c.in_ok-play_lane.ensures.boots ∙ c.loop-lane.invariant.boots;
-      within = c.in_ok-play_lane.ensures.within refl;
+      on = c.in_ok-play_lane.ensures.on refl;
     }

@@ -1,7 +1,8 @@
-use Rattle.std.proofs.Common.{◌≡◌, ◌<◌, ◌∙◌, length, get_or, refl, arith}
+use Rattle.std.proofs.Common.{◌≡◌, ◌<◌, length, get_or, refl, arith}
 use Rattle.apex_world.specs.Segments.{segment_of}
 use Rattle.play_text.proofs.Puts.{faults_more}
-use Rattle.device_play.proofs.Runs.{Stopped-at, Went-next, ran_err, segment_plan_at, segment_plan_next}
+use Rattle.device_play.proofs.Places.{segment_plan_at, segment_plan_next}
+use Rattle.device_play.proofs.Runs.{Stopped-at, Went-next, ran_err}
 use Rattle.device_play.proofs.Steps.{few_of, step_at}
 use Rattle.device_play.proofs.run.Run.play_segments.Goals as goal
 
@@ -37,6 +38,5 @@ loop-at-preserved g c =
           c.in_ok-play_step.ensures.ran;
       counts = c.in_ok-play_step.ensures.counts refl;
       faults = faults_more _ _ _ _ _ c.loop-at.invariant.faults c.in_ok-play_step.ensures.faults;
-      boots = c.in_ok-play_step.ensures.boots ∙ c.loop-at.invariant.boots;
-      within = c.in_ok-play_step.ensures.within refl;
+      on = c.in_ok-play_step.ensures.on refl;
     }

@@ -1,6 +1,6 @@
-use Rattle.std.proofs.Common.{◌≡◌, [], take, Ok}
-use Rattle.plain_world.specs.Plain.{IsWithinScale, boots_of}
+use Rattle.std.proofs.Common.{[], take, Ok}
 use Rattle.play_text.specs.Put.{HasSinkCause}
+use Rattle.device_play.specs.Device.{IsOn}
 use Rattle.device_play.specs.Run.{Went, segment_plan}
 use Rattle.device_play.specs.Stages.{stage_of, blocks_before, HasCounts}
 use Rattle.device_play.proofs.run.Run.play_segments.Given as goal
@@ -12,6 +12,5 @@ invariant-loop-at g l = record {
       (stage_of l.self (g.K.Sink.held l.sink));
   counts : HasCounts l.steps (blocks_before l.boot l.at);
   faults : HasSinkCause {T = Unit {0}} (Ok tt) (g.K.Sink.faults l.fn.sink) (g.K.Sink.faults l.sink);
-  boots : boots_of l.self.world ≡ boots_of l.fn.self.world;
-  within : IsWithinScale l.self.world;
+  on : IsOn l.self.device;
 }

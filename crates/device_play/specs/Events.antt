@@ -1,0 +1,17 @@
+-- What can happen to a world.
+use Rattle.std.specs.Prelude.{◌≡◌, ◌<◌, ◌+◌, ◌^◌}
+use Rattle.apex_world.specs.declared.calls.BootOrder.{BootOrder}
+use Rattle.apex_world.specs.Fold.{Event, BootOf, CallOf}
+use Rattle.apex_world.specs.Orders.{IsOrder}
+use Rattle.apex_world.specs.World.{World, boots}
+
+-- the order is one of the world's scale, and the boot can be numbered
+pub record CanBoot (w : World) (order : BootOrder) : Type 0 where
+  pub scale : order.scale ≡ w.scale
+  pub is_order : IsOrder order
+  pub number : boots w + 1 < 2 ^ 32
+
+-- a call can happen at any time
+abbrev pub CanHappen : World → Event → Type 0
+CanHappen w (BootOf boot) = CanBoot w boot.order
+CanHappen w (CallOf call) = Unit {0}

@@ -1,0 +1,93 @@
+//! A device: boots and calls happen to it, and from one boot to the next nothing but its rows is kept.
+ghost use Rattle.std.specs.Prelude.{◌≡◌, [], IfOk, OnOk, OnErr, IsTrue};
+ghost use Rattle.apex_base.specs.Ranges.{IsMillis};
+ghost use Rattle.apex_base.specs.Text.{is_print};
+ghost use Rattle.apex_core.specs.Core.{IsStored};
+ghost use Rattle.apex_world.specs.Boot.{boot_reply, boot_world};
+ghost use Rattle.apex_world.specs.Calls.{call_at};
+ghost use Rattle.apex_world.specs.Playable.{IsBuilt};
+ghost use Rattle.apex_world.specs.Step.{step};
+ghost use Rattle.apex_world.specs.World.{World, empty_world};
+ghost use Rattle.device_play.specs.Device.{IsDeviceOf, IsOn};
+ghost use Rattle.device_play.specs.Events.{CanBoot};
+
+use apex_base::{Mounter, Scale};
+use apex_core::Core;
+use apex_world::{BootOrder, BootReply, CallRef, Reply};
+use row_map::Rows;
+use std::alloc::{AllocError, Global};
+use std::mem;
+
+/// A device that is off, of which there are only the rows, or one that is on.
+#[derive(Drop)]
+pub enum Device {
+    Off(Rows),
+    On(Core),
+}
+
+impl Device {
+    /// A device that was never booted. It has no rows, and may be of either scale.
+    pub fn new(alloc: Global) -> Self
+        ensures { (scale : Scale) → IsDeviceOf result (empty_world scale) }
+    {
+        Device::Off(Rows::new(alloc))
+    }
+
+    /// The rows alone.
+    fn into_rows(self) -> Rows
+        ensures { (w : World) → IsDeviceOf self w → IsStored result w }
+    {
+        match self {
+            Device::Off(rows) => rows,
+            Device::On(core) => core.into_rows(),
+        }
+    }
+
+    /// Boots it from its rows alone, whether it is on or off. Where memory runs out, the rows are gone.
+    pub fn boot<M: Mounter>(
+        &mut self,
+        alloc: Global,
+        order: &BootOrder,
+        mounter: &M,
+    ) -> Result<BootReply, AllocError>
+        requires can { (w : World) × (IsDeviceOf self.old w × CanBoot w order.now) }
+        requires alone { order.now.observers ≡ [] }
+        ensures reply { (w : World) → IsDeviceOf self.old w → CanBoot w order.now
+            → IfOk result (λ reply. reply ≡ boot_reply w order.now (M.mounting mounter.now)) }
+        ensures leads { (w : World) → IsDeviceOf self.old w → CanBoot w order.now
+            → OnOk result (IsDeviceOf self.new (boot_world w order.now (M.mounting mounter.now))) }
+        ensures on { OnOk result (IsOn self.new) }
+    {
+        known(order);
+        let rows = mem::replace(self, Device::new(alloc)).into_rows();
+        let (core, reply) = Core::boot(alloc, rows, order, mounter)?;
+        *self = Device::On(core);
+        Ok(reply)
+    }
+
+    /// A call happens to a device that is on. After an error it may be of the worlds that it was of before.
+    pub fn act(&mut self, alloc: Global, call: &CallRef) -> Result<Reply, AllocError>
+        requires on { IsOn self.old }
+        requires built { IsBuilt (call_at call.now) }
+        ensures reply { (w : World) → IsDeviceOf self.old w
+            → IfOk result (λ reply. reply ≡ (step w (call_at call.now)).reply) }
+        ensures leads { (w : World) → IsDeviceOf self.old w
+            → OnOk result (IsDeviceOf self.new (step w (call_at call.now)).world) }
+        ensures stays { (w : World) → IsDeviceOf self.old w → OnErr result (IsDeviceOf self.new w) }
+        ensures on { IsOn self.new }
+    {
+        match self {
+            Device::Off(_) => unreachable!(),
+            Device::On(core) => core.act(alloc, call),
+        }
+    }
+}
+
+/// For proofs: what the parts of an order are.
+fn known(order: &BootOrder)
+    ensures print { IsTrue (is_print order.now.image.print) }
+    ensures time { IsMillis order.now.time }
+{
+    let _ = order.image.get().print.as_bytes();
+    let _ = order.time.number();
+}
