@@ -8,8 +8,11 @@ mod NameRows
 mod OpenedRecords
 mod OpenedValues
 mod OpenedWorld
+mod OwnParts
 mod RightBoots
 mod RightNames
 mod RightRecords
 mod SessionLists
+mod SessionPlaces
 mod SessionSteps
+mod SettledChanges
