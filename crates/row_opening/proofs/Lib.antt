@@ -5,6 +5,8 @@ mod KeysRead
 mod MomentLists
 mod MomentSteps
 mod NameRows
+mod OpenedFiles
+mod OpenedParts
 mod OpenedRecords
 mod OpenedValues
 mod OpenedWorld
@@ -16,3 +18,5 @@ mod SessionLists
 mod SessionPlaces
 mod SessionSteps
 mod SettledChanges
+mod SettledFiles
+mod SettledNames

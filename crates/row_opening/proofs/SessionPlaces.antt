@@ -1,6 +1,6 @@
 -- Where a session stands in a list that ascends by id, by what a binary search answers. Callers want `where_found`.
 use Rattle.std.proofs.Common.{◌≡◌, ℕ, zero, suc, ◌≤◌, ◌<◌, List, [], ◌∷◌, length, slice_get, get_or, None, Result, Ok}
-use Rattle.std.proofs.Common.{Err, sym, ◌∙◌, refl, arith, inl, inr}
+use Rattle.std.proofs.Common.{Err, ◌∙◌, refl, arith, inl, inr}
 use Rattle.std.proofs.lemmas.Bool.{lt-ltb, le-ltb, eq-eqb, ne_eqb, cases_order}
 use Rattle.std.specs.Prelude.{MatchResult}
 use Rattle.std.specs.List.{AllByRecursion}

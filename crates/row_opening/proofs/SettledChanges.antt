@@ -1,8 +1,8 @@
 -- What changes make of the rows of a tag. Callers want `untouched` and `touched`.
-use Rattle.std.proofs.Common.{◌≡◌, ◌≢◌, ◌⊎◌, ℕ, Bool, true, false, cond, eqb, ◌||◌, List, [], ◌∷◌, Option, Some, None}
-use Rattle.std.proofs.Common.{sym, ap, ◌∙◌, inl, inr, refl}
+use Rattle.std.proofs.Common.{◌≡◌, ◌≢◌, ℕ, Bool, true, false, ◌||◌, List, [], ◌∷◌, Option, Some, None}
+use Rattle.std.proofs.Common.{sym, ap, ◌∙◌, refl}
 use Rattle.std.specs.FinMap as fin
-use Rattle.std.specs.List.{AllByRecursion, list_any}
+use Rattle.std.specs.List.{AllByRecursion}
 use Rattle.std.proofs.lemmas.Bool.{eqb-true, eq-eqb}
 use Rattle.apex_base.specs.Keys.{RowMap}
 use Rattle.row_codec.specs.declared.batch.Row.{Row}
@@ -45,29 +45,31 @@ module _ (tag : ℕ) where
       let (here, later) = neither (has_tag tag c.key) (changes_tag tag cs) e in
       untouched (changed_at m c.key c.value) cs later rest
       ∙ changed_other m c.key c.value (tag ∷ rest)
-      (ap (λ (b : Bool). b) (other_key (same_key (tag ∷ rest) c.key) c.key rest here refl))
+      (other_key (same_key (tag ∷ rest) c.key) c.key rest here refl)
 
   module _ (old : RowMap) where
-    Apart : RowMap → Type 0
+    -- a row of this tag has another value
+    abbrev Apart : RowMap → Type 0
     Apart m = (rest : List ℕ) × (fin.get old (tag ∷ rest) ≢ fin.get m (tag ∷ rest))
+
+    touched_if : (m : RowMap) (c : Row) (cs : List Row) → IsChange old c → changes_tag tag (c ∷ cs) ≡ true
+        → (b : Bool) → changes_tag tag cs ≡ b
+        → (changes_tag tag cs ≡ true → Apart (changed (changed_at m c.key c.value) cs))
+        → Apart (changed (changed_at m c.key c.value) cs)
+    touched_if m c cs change e true f later = later f
+    touched_if m c cs change e false f later =
+        let (rest, is) = tagged c.key (first_true (has_tag tag c.key) (changes_tag tag cs) e f) in (
+          rest,
+          λ same. change (ap (fin.get old) is ∙ same ∙ untouched (changed_at m c.key c.value) cs f rest
+              ∙ ap (fin.get (changed_at m c.key c.value)) (sym is) ∙ changed_here m c.key c.value),
+        )
 
     -- where each changes something, one of them leaves another value there
     touched_by : (m : RowMap) (changes : List Row) → AllByRecursion (IsChange old) changes
-        → changes_tag tag changes ≡ true
-        → (rest : List ℕ) × (fin.get old (tag ∷ rest) ≢ fin.get (changed m changes) (tag ∷ rest))
+        → changes_tag tag changes ≡ true → Apart (changed m changes)
     touched_by m [] each e = absurd (cc e)
-    touched_by m (c ∷ cs) each e = touched_if m c cs each e (changes_tag tag cs) refl
-
-    touched_if : (m : RowMap) (c : Row) (cs : List Row) → AllByRecursion (IsChange old) (c ∷ cs)
-        → changes_tag tag (c ∷ cs) ≡ true → (b : Bool) → changes_tag tag cs ≡ b
-        → (rest : List ℕ) × (fin.get old (tag ∷ rest) ≢ fin.get (changed m (c ∷ cs)) (tag ∷ rest))
-    touched_if m c cs each e true f = touched_by (changed_at m c.key c.value) cs each.1 f
-    touched_if m c cs each e false f =
-        let (rest, is) = tagged c.key (first_true (has_tag tag c.key) (changes_tag tag cs) e f) in (
-          rest,
-          λ same. each.0 (ap (fin.get old) is ∙ same ∙ untouched (changed_at m c.key c.value) cs f rest
-              ∙ ap (fin.get (changed_at m c.key c.value)) (sym is) ∙ changed_here m c.key c.value),
-        )
+    touched_by m (c ∷ cs) each e = touched_if m c cs each.0 e (changes_tag tag cs) refl
+        (touched_by (changed_at m c.key c.value) cs each.1)
 
   pub touched : (m : RowMap) (changes : List Row) → AllByRecursion (IsChange m) changes
       → changes_tag tag changes ≡ true

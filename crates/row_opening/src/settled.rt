@@ -5,7 +5,7 @@ ghost use Rattle.row_opening.specs.SettledTags.{Tells, has_tag, changes_tag};
 
 use crate::files::are_files;
 use apex_base::Record;
-use package_store::settle;
+use package_store::{rows_are_those_shown, settle};
 use row_codec::Row;
 use row_map::Rows;
 use std::alloc::{AllocError, Global};
@@ -32,6 +32,7 @@ pub fn settled_tags(
     ensures backup { IfOk result (λ tags. Tells rows.now 4 tags.backup) }
     ensures files { IfOk result (λ tags. Tells rows.now 5 tags.files) }
 {
+    rows_are_those_shown();
     let own = are_files(rows, sessions);
     let changes = settle(alloc, rows.by_key(), sessions)?;
     Ok(SettledTags {
@@ -45,7 +46,9 @@ pub fn settled_tags(
 fn changes_tag(changes: &[Row], tag: u8) -> bool
     ensures { result ≡ changes_tag tag changes.now }
 {
-    changes.iter().any(|change| has_tag(change.key.as_slice(), tag))
+    changes
+        .iter()
+        .any(|change| has_tag(change.key.as_slice(), tag))
 }
 
 fn has_tag(key: &[u8], tag: u8) -> bool

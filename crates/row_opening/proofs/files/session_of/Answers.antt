@@ -1,6 +1,5 @@
-use Rattle.std.proofs.Common.{◌≡◌, ◌<◌, length, slice_get, None, Ok, Err, sym, ◌∙◌, refl}
+use Rattle.std.proofs.Common.{length, Ok, Err, sym, ◌∙◌, refl}
 use Rattle.std.proofs.lemmas.Option.{slice_get_read}
-use Rattle.apex_base.specs.Sessions.{session_of}
 use Rattle.row_opening.proofs.SessionPlaces.{where_found}
 use Rattle.row_opening.proofs.files.session_of.Goals as goal
 
