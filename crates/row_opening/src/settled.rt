@@ -1,5 +1,5 @@
 //! Rows of names and of files, which depend on the sessions.
-ghost use Rattle.std.specs.Prelude.{◌≡◌, IfOk};
+ghost use Rattle.std.specs.Prelude.{◌≡◌, ◌&&◌, not, IfOk};
 ghost use Rattle.apex_world.specs.Opened.{opened_sessions};
 ghost use Rattle.row_opening.specs.SettledTags.{Tells, has_tag, changes_tag};
 
@@ -38,8 +38,15 @@ pub fn settled_tags(
     Ok(SettledTags {
         active: !changes_tag(&changes, 3),
         backup: !changes_tag(&changes, 4),
-        files: !changes_tag(&changes, 5) && own,
+        files: are_right_files(&changes, own),
     })
+}
+
+/// Whether no file's row has to go, since its module is kept, and each is one of a session's own module.
+fn are_right_files(changes: &[Row], own: bool) -> bool
+    ensures { result ≡ (not (changes_tag 5 changes.now) && own) }
+{
+    !changes_tag(changes, 5) && own
 }
 
 /// Whether a change is one of a row of this tag.

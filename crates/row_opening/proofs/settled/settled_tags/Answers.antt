@@ -5,13 +5,12 @@ use Rattle.apex_world.specs.Opened.{opened_sessions}
 use Rattle.row_map.specs.Rows.{rows_of}
 use Rattle.package_store.specs.Settled.{HaveParts}
 use Rattle.row_opening.specs.FileKeys.{are_files}
-use Rattle.row_opening.specs.SettledTags.{Tells}
+use Rattle.row_opening.specs.SettledTags.{Tells, changes_tag}
 use Rattle.row_opening.proofs.OpenedParts.{have_parts}
 use Rattle.row_opening.proofs.OpenedRecords.{sessions_ascend}
 use Rattle.row_opening.proofs.SettledFiles.{files_told}
 use Rattle.row_opening.proofs.SettledNames.{Settles, settling, active_told, backup_told}
 use Rattle.row_opening.proofs.settled.settled_tags.Goals as goal
-use Rattle.row_opening.proofs.settled.settled_tags.Goals.{then-not-changes_tag, else-not-changes_tag}
 
 pub are_files-own-requires : goal.are_files-own-requires
 are_files-own-requires c = subst Ascend (sym c.requires) (sessions_ascend c.args.rows.now)
@@ -39,18 +38,13 @@ returns-clause-backup c =
     backup_told c.args.rows.now c.in_ok-changes.changes.items (settles c) c.changes_tag-2.result
     (sym (rw c.deref-2.ensures.value at c.changes_tag-2.ensures))
 
--- the files are right if no change is one of theirs, and each is a session's own
-both : (c : goal.After-drop-changes)
-    → (not c.changes_tag-3.result && c.are_files-own.result) ≡ c.if-not-changes_tag.result
-both c = elim c.if-not-changes_tag.branch [
-  | then-not-changes_tag w ↦ rw (w.result-is, w.if-not-changes_tag.true) refl
-  | else-not-changes_tag w ↦ rw (w.result-is, w.if-not-changes_tag.false) refl
-]
-
 pub returns-clause-files : goal.returns-clause-files
 returns-clause-files c =
+    let changes = c.in_ok-changes.changes.items in
     let own : c.are_files-own.result ≡ are_files (opened_sessions c.args.rows.now) (fin.entries c.args.rows.now) =
     rw c.requires at c.are_files-own.ensures.files in
-    subst (Tells c.args.rows.now 5) (both c)
-    (files_told c.args.rows.now c.are_files-own.ensures.fits c.in_ok-changes.changes.items (settles c)
-    c.changes_tag-3.result c.are_files-own.result (sym (rw c.deref-3.ensures.value at c.changes_tag-3.ensures)) own)
+    let both : c.are_right_files.result ≡ (not (changes_tag 5 changes) && c.are_files-own.result) =
+    rw c.deref-3.ensures.value at c.are_right_files.ensures in
+    subst (Tells c.args.rows.now 5) (sym both)
+    (files_told c.args.rows.now c.are_files-own.ensures.fits changes (settles c) (changes_tag 5 changes)
+    c.are_files-own.result refl own)
