@@ -1,15 +1,17 @@
--- What changes make of the rows of a tag. Callers want `untouched` and `touched`.
+-- What the changes that settle rows say of the rows of a tag. Callers want `settling`, `stays` and `moves`.
 use Rattle.std.proofs.Common.{◌≡◌, ◌≢◌, ℕ, Bool, true, false, ◌||◌, List, [], ◌∷◌, Option, Some, None}
-use Rattle.std.proofs.Common.{sym, ap, ◌∙◌, refl}
+use Rattle.std.proofs.Common.{sym, ap, subst, ◌∙◌, refl}
 use Rattle.std.specs.FinMap as fin
 use Rattle.std.specs.List.{AllByRecursion}
 use Rattle.std.proofs.lemmas.Bool.{eqb-true, eq-eqb}
+use Rattle.apex_base.specs.declared.records.Record.{Record}
 use Rattle.apex_base.specs.Keys.{RowMap}
 use Rattle.row_codec.specs.declared.batch.Row.{Row}
 use Rattle.row_map.specs.Room.{same_key}
 use Rattle.row_map.specs.Rows.{changed, changed_at}
 use Rattle.row_map.proofs.Maps.{at_insert, at_remove, itself, key_is, changed_other}
-use Rattle.package_store.specs.Settled.{IsChange}
+use Rattle.apex_world.specs.Opened.{opened_sessions}
+use Rattle.package_store.specs.Settled.{IsChange, settled_value}
 use Rattle.row_opening.specs.SettledTags.{has_tag, changes_tag}
 
 neither : (a b : Bool) → (a || b) ≡ false → (a ≡ false) × (b ≡ false)
@@ -38,7 +40,7 @@ module _ (tag : ℕ) where
   tagged (first ∷ rest) e = (rest, ap (λ (t : ℕ). t ∷ rest) (eqb-true first tag e))
 
   -- where no change is one of a row of this tag, its rows stay
-  pub untouched : (m : RowMap) (changes : List Row) → changes_tag tag changes ≡ false → (rest : List ℕ)
+  untouched : (m : RowMap) (changes : List Row) → changes_tag tag changes ≡ false → (rest : List ℕ)
       → fin.get (changed m changes) (tag ∷ rest) ≡ fin.get m (tag ∷ rest)
   untouched m [] e rest = refl
   untouched m (c ∷ cs) e rest =
@@ -71,7 +73,30 @@ module _ (tag : ℕ) where
     touched_by m (c ∷ cs) each e = touched_if m c cs each.0 e (changes_tag tag cs) refl
         (touched_by (changed_at m c.key c.value) cs each.1)
 
-  pub touched : (m : RowMap) (changes : List Row) → AllByRecursion (IsChange m) changes
+  touched : (m : RowMap) (changes : List Row) → AllByRecursion (IsChange m) changes
       → changes_tag tag changes ≡ true
       → (rest : List ℕ) × (fin.get m (tag ∷ rest) ≢ fin.get (changed m changes) (tag ∷ rest))
   touched m changes each e = touched_by m m changes each e
+
+-- with these changes each key has its settled value, and each of them changes something
+pub record Settles (m : RowMap) (ss : List Record) (changes : List Row) : Type 0 where
+  pub after : (key : List ℕ) → fin.get (changed m changes) key ≡ settled_value m ss key
+  pub exact : AllByRecursion (IsChange m) changes
+
+pub settling : (m n : RowMap) (ss : List Record) (changes : List Row) → n ≡ m → ss ≡ opened_sessions m
+    → Settles n ss changes → Settles m (opened_sessions m) changes
+settling m n ss changes same opened s = subst (λ (ss : List Record). Settles m ss changes) opened
+    (subst (λ (x : RowMap). Settles x ss changes) same s)
+
+module _ (m : RowMap) (changes : List Row) (s : Settles m (opened_sessions m) changes) where
+  -- where no change is one of a tag's rows, each has its settled value
+  pub stays : (tag : ℕ) → changes_tag tag changes ≡ false → (rest : List ℕ)
+      → fin.get m (tag ∷ rest) ≡ settled_value m (opened_sessions m) (tag ∷ rest)
+  stays tag e rest = sym (untouched tag m changes e rest) ∙ s.after (tag ∷ rest)
+
+  -- else one of them hasn't
+  pub moves : (tag : ℕ) → changes_tag tag changes ≡ true
+      → (rest : List ℕ) × (fin.get m (tag ∷ rest) ≢ settled_value m (opened_sessions m) (tag ∷ rest))
+  moves tag e =
+      let (rest, apart) = touched tag m changes s.exact e in
+      (rest, λ same. apart (same ∙ sym (s.after (tag ∷ rest))))

@@ -18,7 +18,7 @@ use Rattle.row_opening.specs.FileKeys.{is_file_key, is_file_at, are_files}
 use Rattle.row_opening.specs.RowBytes.{FitBytes, FitRow, FitRows}
 use Rattle.row_opening.specs.SettledTags.{Tells, changes_tag}
 use Rattle.row_opening.proofs.OpenedFiles.{file_again, file_there}
-use Rattle.row_opening.proofs.SettledNames.{Settles, stays, moves}
+use Rattle.row_opening.proofs.SettledChanges.{Settles, stays, moves}
 
 abbrev Entry : Type 0
 Entry = List ℕ × List ℕ

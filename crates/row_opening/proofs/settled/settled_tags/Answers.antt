@@ -9,7 +9,8 @@ use Rattle.row_opening.specs.SettledTags.{Tells, changes_tag}
 use Rattle.row_opening.proofs.OpenedParts.{have_parts}
 use Rattle.row_opening.proofs.OpenedRecords.{sessions_ascend}
 use Rattle.row_opening.proofs.SettledFiles.{files_told}
-use Rattle.row_opening.proofs.SettledNames.{Settles, settling, active_told, backup_told}
+use Rattle.row_opening.proofs.SettledChanges.{Settles, settling}
+use Rattle.row_opening.proofs.SettledNames.{active_told, backup_told}
 use Rattle.row_opening.proofs.settled.settled_tags.Goals as goal
 
 pub are_files-own-requires : goal.are_files-own-requires
