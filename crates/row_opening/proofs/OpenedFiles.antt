@@ -42,7 +42,8 @@ module _ (a b c d : ℕ) (fits : FitBytes (a ∷ b ∷ c ∷ d ∷ [])) where
   low = omega (arith, fits 0, fits 1, fits 2, fits 3)
 
   front : (part : ℕ) (path : List ℕ) → 5 ∷ a ∷ b ∷ c ∷ d ∷ part ∷ path ≡ file_front id part path
-  front part path = ap (λ (xs : List ℕ). 5 ∷ xs ++ part ∷ path) (sym (be_bytes_4 (a ∷ b ∷ c ∷ d ∷ []) id.0 refl fits refl))
+  front part path =
+      ap (λ (xs : List ℕ). 5 ∷ xs ++ part ∷ path) (sym (be_bytes_4 (a ∷ b ∷ c ∷ d ∷ []) id.0 refl fits refl))
 
 module _ (m : RowMap) (scale : Scale) where
   abbrev ss : List Record
@@ -78,7 +79,8 @@ module _ (m : RowMap) (scale : Scale) where
   there_if rest v (BackupOf name) i is has e = absurd (cc is)
   there_if rest v (FileOf id part path) i is has e =
       let row = sym (file_row_is m scale id part path i) ∙ ap (fin.get (opened_rows m scale)) (sym is) ∙ e in
-      let kept_row = (some_if (is_target (kept ss) id part) (cond (has_own ss id part) (path_in m id part path) None) v row).1 in
+      let kept_row = (some_if (is_target (kept ss) id part)
+      (cond (has_own ss id part) (path_in m id part path) None) v row).1 in
       let own_row = (some_if (has_own ss id part) (path_in m id part path) v kept_row).1 in
       ap (fin.get m) is ∙ (some_if (is_path path) (fin.get m (file_front id part path)) v own_row).1
   there_if rest v (DataOf name key) i is has e = absurd (cc is)

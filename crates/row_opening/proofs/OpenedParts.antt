@@ -1,4 +1,5 @@
--- The targets of sessions that rows open to have parts of one byte, where the rows are bytes. Callers want `have_parts`.
+-- The targets of sessions that rows open to have parts of one byte, where the rows are bytes. Callers want
+-- `have_parts`.
 use Rattle.std.proofs.Common.{◌≡◌, ℕ, List, subst}
 use Rattle.std.specs.Prelude.{IfSome}
 use Rattle.std.specs.FinMap as fin

@@ -82,7 +82,8 @@ ascends (x ∷ xs) (suc i) zero d a l m = absurd (omega (arith, l))
 ascends (x ∷ xs) (suc i) (suc j) d a l m = ascends xs i j d a.1 (omega (arith, l)) (omega (arith, m))
 
 -- so the answers of the search rise
-rises : (xs : List Record) (n : ℕ) → Ascend xs → IsNonDecreasingBy (λ (r : Record). ordering_index (nat_cmp r.id.0 n)) xs
+rises : (xs : List Record) (n : ℕ) → Ascend xs
+    → IsNonDecreasingBy (λ (r : Record). ordering_index (nat_cmp r.id.0 n)) xs
 rises xs n a i j d l m = index_rises _ _ n (ascends xs i j d a l m)
 
 -- What stands at a place
