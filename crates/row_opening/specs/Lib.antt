@@ -1,4 +1,6 @@
 pub mod BadRows
+pub mod FileKeys
 pub mod RightRows
 pub mod RowBytes
 pub mod RowSessions
+pub mod SettledTags

@@ -52,3 +52,74 @@ fn boots_with_a_byte_more_are_wrong(rt: HostRuntime) -> Result<(), Fail> {
     assert!(rt; !right);
     Ok(())
 }
+
+/// Session 5 of `docs/rows.md`, "A record", while it is ACTIVATED and its rollback ENABLING.
+const ACTIVATED: [u8; 52] = [
+    3, 2, 0, 0, 0, 0, 1, 0, 0, 0, 0, 0, 0, 0, 0, 0, 0, 0, 2, 1, 80, 0, 1, 0, 0, 0, 0, 0, 1, 97, 0,
+    0, 0, 0, 0, 0, 0, 2, 1, 0, 0, 0, 5, 0, 0, 0, 0, 0, 0, 0, 0, 2,
+];
+
+/// The same session as it stands there: SUCCESS, with a rollback that is AVAILABLE.
+const SUCCESS: [u8; 52] = [
+    5, 2, 0, 0, 0, 0, 2, 0, 0, 0, 0, 0, 0, 7, 208, 0, 0, 0, 2, 1, 80, 0, 1, 0, 0, 0, 0, 0, 1, 97,
+    0, 0, 0, 0, 0, 0, 0, 2, 1, 0, 0, 0, 5, 0, 0, 0, 0, 0, 0, 0, 0, 2,
+];
+
+/// Its module: session 5, part 0, version 2.
+const TARGET: [u8; 14] = [1, 0, 0, 0, 5, 0, 0, 0, 0, 0, 0, 0, 0, 2];
+
+const PREINSTALLED: [u8; 1] = [2];
+
+fn judged(rt: &HostRuntime, entries: &[(&[u8], &[u8])]) -> Result<SettledTags, Fail> {
+    let mut rows = Rows::new(rt.alloc());
+    for (key, value) in entries {
+        let key = Vec::from_slice(rt.alloc(), *key)
+            .ok()
+            .ok_or("there is memory")?;
+        let value = Vec::from_slice(rt.alloc(), *value)
+            .ok()
+            .ok_or("there is memory")?;
+        rows.put(key, Listed::of(value))
+            .ok()
+            .ok_or("there is memory")?;
+    }
+    let sessions = opened_sessions(rt.alloc(), &rows)
+        .ok()
+        .ok_or("there is memory")?;
+    let tags = settled_tags(rt.alloc(), &rows, &sessions)
+        .ok()
+        .ok_or("there is memory")?;
+    Ok(tags)
+}
+
+/// The name `a` holds the module of session 5, and held the preinstalled one; the module has the file `x`.
+#[test]
+fn rows_that_a_session_calls_for_are_right(rt: HostRuntime) -> Result<(), Fail> {
+    let entries: [(&[u8], &[u8]); 4] = [
+        (&[2, 0, 0, 0, 5], &ACTIVATED),
+        (&[3, 97], &TARGET),
+        (&[4, 97], &PREINSTALLED),
+        (&[5, 0, 0, 0, 5, 0, 120], b"content"),
+    ];
+    let tags = judged(&rt, &entries)?;
+    assert!(rt; tags.active);
+    assert!(rt; tags.backup);
+    assert!(rt; tags.files);
+    Ok(())
+}
+
+/// A SUCCESS session can't be undone, so that there is no row of tag 4; and there is no session 4.
+#[test]
+fn rows_that_no_session_calls_for_are_wrong(rt: HostRuntime) -> Result<(), Fail> {
+    let entries: [(&[u8], &[u8]); 4] = [
+        (&[2, 0, 0, 0, 5], &SUCCESS),
+        (&[3, 97], &PREINSTALLED),
+        (&[4, 97], &PREINSTALLED),
+        (&[5, 0, 0, 0, 4, 0, 120], b"content"),
+    ];
+    let tags = judged(&rt, &entries)?;
+    assert!(rt; !tags.active);
+    assert!(rt; !tags.backup);
+    assert!(rt; !tags.files);
+    Ok(())
+}

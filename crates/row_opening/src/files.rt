@@ -1,0 +1,109 @@
+//! Rows of files, by their keys alone: whether a session has the module as its own.
+ghost use Rattle.std.specs.Prelude.{◌≡◌, length};
+ghost use Rattle.std.specs.FinMap as fin;
+ghost use Rattle.std.specs.List.{list_any};
+ghost use Rattle.std.specs.List.Sorted.{IsBinarySearchResult, IsSearchInRange};
+ghost use Rattle.std.specs.Option.{option_copied};
+ghost use Rattle.std.specs.Ordering.{nat_cmp};
+ghost use Rattle.apex_base.specs.Held.{is_module};
+ghost use Rattle.apex_base.specs.Sessions.{Ascend, session_of};
+ghost use Rattle.row_opening.specs.FileKeys.{is_file_key, is_file_at, are_files};
+ghost use Rattle.row_opening.specs.RightRows.{has_own};
+ghost use Rattle.row_opening.specs.RowBytes.{FitRow, FitRows};
+
+use apex_base::{FilePath, Part, Record, SessionId, Target};
+use row_map::Rows;
+
+/// The tag of the rows of files.
+const FILE: u8 = 5;
+
+/// Whether each row of tag 5 has the key of a file of a module that a session has as its own.
+pub(crate) fn are_files(rows: &Rows, sessions: &[Record]) -> bool
+    requires { Ascend sessions.now }
+    ensures files { result ≡ are_files sessions.now (fin.entries rows.now) }
+    ensures fits { FitRows (fin.entries rows.now) }
+{
+    let mut right = true;
+    for (key, value) in rows.by_key() {
+        known_bytes(key.as_slice(), value.as_slice());
+        right = right && is_file_at(key.as_slice(), sessions);
+    }
+    right
+}
+
+/// States for proofs that a row's key and value are bytes. It does nothing.
+fn known_bytes(key: &[u8], value: &[u8])
+    ensures { FitRow (key.now, value.now) }
+{}
+
+/// Whether a row is of another tag, or has such a key.
+fn is_file_at(key: &[u8], sessions: &[Record]) -> bool
+    requires { Ascend sessions.now }
+    ensures { result ≡ is_file_at sessions.now key.now }
+{
+    match key {
+        [tag, rest @ ..] if *tag == FILE => is_file_key(rest, sessions),
+        _ => true,
+    }
+}
+
+fn is_file_key(key: &[u8], sessions: &[Record]) -> bool
+    requires { Ascend sessions.now }
+    ensures { result ≡ is_file_key sessions.now key.now }
+{
+    match key {
+        [a, b, c, d, part, path @ ..] => {
+            let session = SessionId(u32::from_be_bytes([*a, *b, *c, *d]));
+            FilePath::read(path).is_some() && has_own(sessions, session, u32::from(*part))
+        }
+        _ => false,
+    }
+}
+
+/// Whether a session has the module that it submitted as this part as the target of one of its parts.
+fn has_own(sessions: &[Record], id: SessionId, part: u32) -> bool
+    requires { Ascend sessions.now }
+    ensures { result ≡ has_own sessions.now id part }
+{
+    match session_of(sessions, id) {
+        Some(r) => is_own(r.parts.as_slice(), id, part),
+        None => false,
+    }
+}
+
+fn is_own(parts: &[Part], id: SessionId, part: u32) -> bool
+    ensures { result ≡ list_any (λ p. is_module id part p.target) parts.now }
+{
+    parts.iter().any(|p| is_module(p.target, id, part))
+}
+
+fn is_module(target: Target, session: SessionId, part: u32) -> bool
+    ensures { result ≡ is_module session part target }
+{
+    match target {
+        Target::Preinstalled => false,
+        Target::Module {
+            session: s,
+            part: p,
+            version: _,
+        } => s.0 == session.0 && p == part,
+    }
+}
+
+/// The session of an id, in a list that ascends by id.
+fn session_of<'a>(sessions: &'a [Record], id: SessionId) -> Option<&'a Record>
+    requires { Ascend sessions.now }
+    ensures { option_copied result ≡ session_of sessions.now id }
+{
+    match search(sessions, id.0) {
+        Ok(place) => Some(&sessions[place]),
+        Err(_) => None,
+    }
+}
+
+fn search(sessions: &[Record], number: u32) -> Result<usize, usize>
+    ensures range { IsSearchInRange result (length sessions.now) }
+    ensures found { IsBinarySearchResult (λ r. nat_cmp r.id.0 number) sessions.now result }
+{
+    sessions.binary_search_by_key(&number, |r| r.id.0)
+}
