@@ -1,5 +1,7 @@
 mod AloneRows
+mod EraValues
 mod FileRows
+mod KeptKeys
 mod KeyOrder
 mod KeysRead
 mod MomentLists

@@ -1,4 +1,5 @@
 pub mod BadRows
+pub mod KeptRows
 pub mod RightRows
 pub mod RowBytes
 pub mod RowSessions

@@ -3,6 +3,7 @@
 
 mod alone;
 mod boots;
+mod kept_laws;
 mod laws;
 mod rows;
 mod sessions;
@@ -11,5 +12,6 @@ mod tests;
 
 pub use alone::is_right_alone;
 pub use boots::{Boots, opened_boots};
+pub use kept_laws::{kept_rows_are_those_of_eras, kept_rows_are_what_sessions_keep};
 pub use laws::{files_are_those_of_kept_modules, names_have_what_sessions_give};
 pub use sessions::opened_sessions;
