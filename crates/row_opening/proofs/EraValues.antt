@@ -17,6 +17,7 @@ use Rattle.apex_base.specs.declared.records.Part.{Part}
 use Rattle.apex_base.specs.declared.records.Record.{Record}
 use Rattle.apex_base.specs.Keys.{RowMap, id_text}
 use Rattle.apex_base.specs.Members.{In}
+use Rattle.apex_base.specs.Reading.{short_text}
 use Rattle.apex_base.specs.Sessions.{names}
 use Rattle.apex_base.specs.Tables.{NameMap, or_empty, value_of}
 use Rattle.apex_base.specs.Text.{is_name}
@@ -75,25 +76,25 @@ module _ (m : RowMap) where
 
   first_is : (tag : ℕ) (name key : List ℕ) (rs : List Record)
       → fin.find (slice_cmp nat_cmp) key (all_kept tag name rs)
-      ≡ cond (is_name key) (first_kept m tag name key rs) None
+      ≡ cond (is_name key) (first_kept m tag (short_text name key) rs) None
   first_is tag name key [] = no_cond (is_name key)
   first_is tag name key (r ∷ rs) =
       find_append key (fin.entries (values_in m (kept_text tag r.id name))) (all_kept tag name rs)
       ∙ ap (λ (o : Option (List ℕ)). option_or o (fin.find (slice_cmp nat_cmp) key (all_kept tag name rs)))
       (one_kept tag name key r)
       ∙ ap (option_or (cond (is_name key) (fin.get m (kept_text tag r.id name key)) None)) (first_is tag name key rs)
-      ∙ or_cond (is_name key) (fin.get m (kept_text tag r.id name key)) (first_kept m tag name key rs)
+      ∙ or_cond (is_name key) (fin.get m (kept_text tag r.id name key)) (first_kept m tag (short_text name key) rs)
 
   -- what sessions keep of a name
   kept_is : (rs : List Record) (name key : List ℕ)
-      → fin.get (kept_of m rs name) key ≡ cond (is_name key) (kept_by m rs name key) None
+      → fin.get (kept_of m rs name) key ≡ cond (is_name key) (kept_by m (short_text name key) rs) None
   kept_is rs name key =
       get-from_entries nat_list_cmp_total (all_kept 7 name rs ++ all_kept 8 name rs) key
       ∙ find_append key (all_kept 7 name rs) (all_kept 8 name rs)
       ∙ ap (λ (o : Option (List ℕ)). option_or o (fin.find (slice_cmp nat_cmp) key (all_kept 8 name rs)))
       (first_is 7 name key rs)
-      ∙ ap (option_or (cond (is_name key) (first_kept m 7 name key rs) None)) (first_is 8 name key rs)
-      ∙ or_cond (is_name key) (first_kept m 7 name key rs) (first_kept m 8 name key rs)
+      ∙ ap (option_or (cond (is_name key) (first_kept m 7 (short_text name key) rs) None)) (first_is 8 name key rs)
+      ∙ or_cond (is_name key) (first_kept m 7 (short_text name key) rs) (first_kept m 8 (short_text name key) rs)
 
   -- The era of a boot
 
@@ -118,7 +119,7 @@ module _ (m : RowMap) where
     opened_at n = era_of m (activated_at n ss)
 
     at_boot : (n : ℕ) (name key : List ℕ) → value_of (opened_at n) name key
-        ≡ cond (is_name key) (kept_by m (counting ss n name) name key) None
+        ≡ cond (is_name key) (kept_by m (short_text name key) (counting ss n name)) None
     at_boot n name key =
         ap (λ (t : NameMap (List ℕ)). fin.get t key)
         (ap or_empty (folded (λ name. kept_of m (counting ss n name) name) (all_names n) name (name_sought n name))
@@ -132,7 +133,7 @@ module _ (m : RowMap) where
 
     value_if : (b c : Bool) (boots n : ℕ) (name key : List ℕ) → eqb n 0 ≡ b → nat_le n boots ≡ c
         → value_of (cond b fin.empty (get_or (opened_eras m ss boots) (n - 1) fin.empty)) name key
-        ≡ cond ((not b && c) && is_name key) (kept_by m (counting ss n name) name key) None
+        ≡ cond ((not b && c) && is_name key) (kept_by m (short_text name key) (counting ss n name)) None
     value_if true c boots n name key e f = no_value name key
     value_if false true boots n name key e f =
         ap (λ (c : Contents). value_of c name key)

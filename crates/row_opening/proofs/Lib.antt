@@ -4,6 +4,7 @@ mod FileRows
 mod KeptKeys
 mod KeyOrder
 mod KeysRead
+mod Lookups
 mod MomentLists
 mod MomentSteps
 mod NameRows

@@ -3,8 +3,10 @@
 
 mod alone;
 mod boots;
+mod keeping;
 mod kept_laws;
 mod laws;
+mod lookup;
 mod rows;
 mod sessions;
 #[cfg(test)]
