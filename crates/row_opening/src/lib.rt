@@ -4,6 +4,7 @@
 mod alone;
 mod boots;
 mod keeping;
+mod kept;
 mod kept_laws;
 mod laws;
 mod lookup;
