@@ -3,7 +3,7 @@
 use Rattle.std.specs.Prelude.{◌≡◌, ℕ, ◌==◌, ◌&&◌, ◌||◌, Bool, true, false, not, List, [], ◌∷◌, Option, Some, None}
 use Rattle.std.specs.Prelude.{if◌then◌else◌}
 use Rattle.std.specs.Int.{w32}
-use Rattle.std.specs.List.{list_all}
+use Rattle.std.specs.List.{list_all, AllByRecursion}
 use Rattle.std.specs.FinMap as fin
 use Rattle.apex_base.specs.declared.records.Record.{Record}
 use Rattle.apex_base.specs.Keys.{RowMap, id_of}
@@ -14,6 +14,11 @@ use Rattle.apex_base.specs.Text.{is_name}
 use Rattle.apex_world.specs.Opened.{activated_at, named_in}
 use Rattle.row_opening.specs.KeptRows.{key_under, kept_by, is_boot, kept_if}
 use Rattle.row_opening.specs.RightRows.{is_value}
+use Rattle.row_opening.specs.RowBytes.{FitBytes}
+
+-- rows whose keys are bytes
+abbrev pub FitKeys : List (List ℕ × List ℕ) → Type 0
+FitKeys rows = AllByRecursion (λ row. FitBytes row.0) rows
 
 abbrev pub same_values : Option (List ℕ) → Option (List ℕ) → Bool
 same_values None None = true
@@ -52,17 +57,17 @@ module _ (m : RowMap) (sessions : List Record) (boots tag : ℕ) where
   is_right_place own (Some p) = is_right_beside p.0 p.1 p.2 p.3
 
   -- a row of one of the two tags, by its key; those of the other tag may be of no session
-  abbrev pub is_right_kept : List ℕ → Bool
-  is_right_kept [] = true
-  is_right_kept (first ∷ rest) =
+  abbrev pub is_right_key : List ℕ → Bool
+  is_right_key [] = true
+  is_right_key (first ∷ rest) =
       if (first == 7) || (first == 8) then is_right_place (first == tag) (place_in sessions rest) else true
 
-  abbrev pub are_right_kept : List (List ℕ × List ℕ) → Bool
-  are_right_kept [] = true
-  are_right_kept (row ∷ rows) = is_right_kept row.0 && are_right_kept rows
+  abbrev pub are_right_keys : List (List ℕ × List ℕ) → Bool
+  are_right_keys [] = true
+  are_right_keys (row ∷ rows) = is_right_key row.0 && are_right_keys rows
 
   -- a row that isn't right
-  pub record WrongKept (rows : List (List ℕ × List ℕ)) : Type 0 where
+  pub record WrongKey (rows : List (List ℕ × List ℕ)) : Type 0 where
     pub row : List ℕ × List ℕ
     pub member : In row rows
-    pub wrong : is_right_kept row.0 ≡ false
+    pub wrong : is_right_key row.0 ≡ false
