@@ -80,7 +80,7 @@ module _ (m : RowMap) (scale : Scale) where
   keyed_if tag rest (WatchOf observer name) (inl e) i is = absurd (cc (e, is))
   keyed_if tag rest (WatchOf observer name) (inr e) i is = absurd (cc (e, is))
 
-  opened_keyed : (tag : ℕ) (rest v : List ℕ) → IsKeptTag tag → fin.get (opened_rows m scale) (tag ∷ rest) ≡ Some v
+  pub opened_keyed : (tag : ℕ) (rest v : List ℕ) → IsKeptTag tag → fin.get (opened_rows m scale) (tag ∷ rest) ≡ Some v
       → Keyed tag rest
   opened_keyed tag rest v is e =
       let (t, i, same, has) = opened_found m scale (tag ∷ rest) v e in keyed_if tag rest t is i same

@@ -2,6 +2,8 @@ mod AloneRows
 mod EraValues
 mod FileRows
 mod KeptKeys
+mod KeptPlaces
+mod KeptSteps
 mod KeyOrder
 mod KeysRead
 mod Lookups
@@ -12,7 +14,9 @@ mod OpenedRecords
 mod OpenedValues
 mod OpenedWorld
 mod RightBoots
+mod RightKeptRows
 mod RightNames
 mod RightRecords
 mod SessionLists
 mod SessionSteps
+mod WrongKeptRows

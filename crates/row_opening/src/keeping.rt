@@ -15,10 +15,7 @@ const ROLLBACK: u64 = 1073741824;
 pub(crate) fn has_name(r: &Record, name: &[u8]) -> bool
     ensures { result ≡ names name.now r.now }
 {
-    r.parts
-        .as_slice()
-        .iter()
-        .any(|p| p.name.as_bytes() == name)
+    r.parts.as_slice().iter().any(|p| p.name.as_bytes() == name)
 }
 
 /// Whether a session keeps values under this tag.
