@@ -1,7 +1,7 @@
 use Rattle.std.proofs.Common.{◌≡◌, map, drop}
 use Rattle.apex_world.specs.Opened.{named_in}
 use Rattle.row_opening.specs.KeptRows.{first_kept}
-use Rattle.row_opening.proofs.kept.first_kept.Given as goal
+use Rattle.row_opening.proofs.eras.first_kept.Given as goal
 
 -- the first of the rest is the first of all
 abbrev pub invariant-loop-r : goal.invariant-loop-r

@@ -1,6 +1,6 @@
 use Rattle.std.proofs.Common.{◌≡◌, ◌++◌, map, drop}
 use Rattle.apex_world.specs.Opened.{activated_at}
-use Rattle.row_opening.proofs.kept.activated_at.Given as goal
+use Rattle.row_opening.proofs.eras.activated_at.Given as goal
 
 -- those that were found, and those among the rest, are all
 abbrev pub invariant-loop-r : goal.invariant-loop-r
