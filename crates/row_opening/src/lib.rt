@@ -7,6 +7,8 @@ mod eras;
 mod keeping;
 mod kept;
 mod kept_laws;
+#[cfg(test)]
+mod kept_tests;
 mod laws;
 mod lookup;
 mod rows;
