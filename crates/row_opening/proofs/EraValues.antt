@@ -34,7 +34,8 @@ Entry = List ℕ × List ℕ
 
 -- The first of many
 
-or_if : (b : Bool) (v : List ℕ) (o p : Option (List ℕ)) → cond b (Some v) (option_or o p) ≡ option_or (cond b (Some v) o) p
+or_if : (b : Bool) (v : List ℕ) (o p : Option (List ℕ))
+    → cond b (Some v) (option_or o p) ≡ option_or (cond b (Some v) o) p
 or_if true v o p = refl
 or_if false v o p = refl
 
@@ -128,7 +129,8 @@ module _ (m : RowMap) where
 
     no_value : (name key : List ℕ) → value_of {X = List ℕ} fin.empty name key ≡ None
     no_value name key =
-        ap (λ (t : NameMap (List ℕ)). fin.get t key) (ap or_empty (get-empty {X = NameMap (List ℕ)} (slice_cmp nat_cmp) name))
+        ap (λ (t : NameMap (List ℕ)). fin.get t key)
+        (ap or_empty (get-empty {X = NameMap (List ℕ)} (slice_cmp nat_cmp) name))
         ∙ get-empty {X = List ℕ} (slice_cmp nat_cmp) key
 
     value_if : (b c : Bool) (boots n : ℕ) (name key : List ℕ) → eqb n 0 ≡ b → nat_le n boots ≡ c

@@ -1,5 +1,4 @@
--- Steps of judging the rows of what sessions keep. Callers want `right_place` and
--- `head_wrong`.
+-- Steps of judging the rows of what sessions keep. Callers want `right_place` and `head_wrong`.
 use Rattle.std.proofs.Common.{◌≡◌, ℕ, Bool, false, List, ◌∷◌, Option, Some, sym, ap, ◌∙◌, refl, inl}
 use Rattle.apex_base.specs.declared.records.Record.{Record}
 use Rattle.apex_base.specs.Keys.{RowMap}

@@ -1,11 +1,12 @@
--- Where a key of what sessions keep isn't right, the rows differ from those of the world that they open to. Callers want
--- `kept_wrong`.
-use Rattle.std.proofs.Common.{◌≡◌, ℕ, Bool, true, false, cond, eqb, ◌||◌, List, [], ◌∷◌, Option, Some}
+-- Where a key of what sessions keep isn't right, the rows differ from those of the world that they open to. Callers
+-- want `kept_wrong`.
+use Rattle.std.proofs.Common.{◌≡◌, ◌≢◌, ℕ, ◌<◌, ◌^◌, Bool, true, false, cond, eqb, ◌||◌, List, [], ◌∷◌, Option, Some}
 use Rattle.std.proofs.Common.{None, drop, sym, ap, subst, ◌∙◌, refl}
 use Rattle.std.specs.Prelude.{option_and_then}
 use Rattle.std.specs.FinMap as fin
 use Rattle.std.proofs.lemmas.Bool.{eqb-true}
 use Rattle.apex_base.specs.declared.numbers.Scale.{Scale}
+use Rattle.apex_base.specs.declared.numbers.SessionId.{SessionId}
 use Rattle.apex_base.specs.declared.records.Record.{Record}
 use Rattle.apex_base.specs.Keys.{RowMap}
 use Rattle.apex_base.specs.Members.{In}
@@ -18,7 +19,8 @@ use Rattle.apex_base.proofs.SessionLemmas.{of_in}
 use Rattle.apex_world.specs.Opened.{activated_at, opened_boots, opened_sessions}
 use Rattle.row_opening.specs.BadRows.{opened_rows, DiffersAt}
 use Rattle.row_opening.specs.KeptRows.{IsKeptTag, kept_text, era_value, kept_if, kept_value, kept_row}
-use Rattle.row_opening.specs.RightKept.{same_values, place_in, value_by, has_kept, is_right_place, is_right_key, WrongKey}
+use Rattle.row_opening.specs.RightKept.{same_values, place_in, value_by, has_kept, is_right_place, is_right_key}
+use Rattle.row_opening.specs.RightKept.{WrongKey}
 use Rattle.row_opening.proofs.KeptKeys.{kept_there, kept_differs, opened_keyed}
 use Rattle.row_opening.proofs.KeptPlaces.{Place, is_same, some_fails, place_read, place_again}
 use Rattle.row_opening.proofs.KeysRead.{short_is}
@@ -35,20 +37,27 @@ module _ (m : RowMap) (scale : Scale) (tag : ℕ) (is : IsKeptTag tag) where
   abbrev boots : ℕ
   boots = (opened_boots m).0
 
+  -- what a session keeps, where the opened world has a row
+  kept_here : (rest value : List ℕ) (id : SessionId) (name key : List ℕ) → id.0 < 2 ^ 32
+      → tag ∷ rest ≡ kept_text tag id name key → fin.get (opened_rows m scale) (tag ∷ rest) ≡ Some value
+      → kept_row m tag id name key ≡ Some value
+  kept_here rest value id name key low h e =
+      sym (kept_there m scale tag id name key is low) ∙ ap (fin.get (opened_rows m scale)) (sym h) ∙ e
+
+  -- so its place can be read
+  placed : (rest value : List ℕ) → fin.get (opened_rows m scale) (tag ∷ rest) ≡ Some value → place_in ss rest ≢ None
+  placed rest value e none =
+      let (id, name, key, low, h) = opened_keyed m scale tag rest value is e in
+      let (s, f, g) = some_then (kept_value m ss boots tag name key) (session_of ss id) value
+      (kept_here rest value id name key low h e) in
+      let read : place_in ss rest ≡ Some (s, name, key, short_text name key) =
+      ap (λ (xs : List ℕ). place_in ss (drop 1 xs)) h ∙ place_again ss id name key s low f in
+      absurd (cc (none, read))
+
   -- a row of no place isn't there again
   unplaced : (rest value : List ℕ) → fin.get m (tag ∷ rest) ≡ Some value → place_in ss rest ≡ None
       → DiffersAt m scale tag
-  unplaced rest value e none = (
-    rest,
-    λ same.
-        let (id, name, key, low, h) = opened_keyed m scale tag rest value is (sym same ∙ e) in
-        let kept : kept_row m tag id name key ≡ Some value =
-        sym (kept_there m scale tag id name key is low) ∙ ap (fin.get (opened_rows m scale)) (sym h) ∙ sym same ∙ e in
-        let (s, f, g) = some_then (kept_value m ss boots tag name key) (session_of ss id) value kept in
-        let read : place_in ss rest ≡ Some (s, name, key, short_text name key) =
-        ap (λ (xs : List ℕ). place_in ss (drop 1 xs)) h ∙ place_again ss id name key s low f in
-        absurd (cc (none, read)),
-  )
+  unplaced rest value e none = (rest, λ same. placed rest value (sym same ∙ e) none)
 
   -- a session that hasn't what it keeps
   unkept : (s r : Record) (name key : List ℕ) → In r ss → r.activation ≡ s.activation

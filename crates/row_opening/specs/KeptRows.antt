@@ -1,5 +1,5 @@
--- What rows of tags 7 and 8 say of the data just before each boot, and which of them stand in the rows of the world that
--- they open to: docs/rows.md, "Opening". The sessions and the number of boots are the opened ones.
+-- What rows of tags 7 and 8 say of the data just before each boot, and which of them stand in the rows of the world
+-- that they open to: docs/rows.md, "Opening". The sessions and the number of boots are the opened ones.
 use Rattle.std.specs.Prelude.{◌≡◌, ◌⊎◌, ℕ, ◌<◌, ◌^◌, ◌==◌, ◌&&◌, Bool, not, nat_le, List, [], ◌∷◌, ◌++◌, Option}
 use Rattle.std.specs.Prelude.{Some, None, option_and_then, if◌then◌else◌}
 use Rattle.std.specs.Option.{option_or}
@@ -63,7 +63,8 @@ kept_value m sessions boots tag name key r =
 -- and that the session of an id keeps
 abbrev pub kept_row : RowMap → ℕ → SessionId → List ℕ → List ℕ → Option (List ℕ)
 kept_row m tag id name key =
-    option_and_then (kept_value m (opened_sessions m) (opened_boots m).0 tag name key) (session_of (opened_sessions m) id)
+    option_and_then (kept_value m (opened_sessions m) (opened_boots m).0 tag name key)
+    (session_of (opened_sessions m) id)
 
 -- each row of this tag is of a session, a name and a key, and such rows are those that sessions keep
 pub record AreKept (m : RowMap) (tag : ℕ) : Type 0 where

@@ -20,6 +20,7 @@ use Rattle.row_opening.specs.RowBytes.{FitBytes}
 abbrev pub FitKeys : List (List ℕ × List ℕ) → Type 0
 FitKeys rows = AllByRecursion (λ row. FitBytes row.0) rows
 
+-- both are there and the same, or neither is there
 abbrev pub same_values : Option (List ℕ) → Option (List ℕ) → Bool
 same_values None None = true
 same_values None (Some v) = false
@@ -43,20 +44,22 @@ module _ (m : RowMap) (sessions : List Record) (boots tag : ℕ) where
   abbrev pub has_kept : List ℕ → List ℕ → Option (List ℕ) → Record → Bool
   has_kept name under value r = same_values (fin.get m (key_under tag r.id under)) (kept_if sessions tag name value r)
 
+  -- and so has each of these
   abbrev pub all_have : List ℕ → List ℕ → Option (List ℕ) → List Record → Bool
   all_have name under value peers = list_all (has_kept name under value) peers
 
-  -- each session that the boot of session s activated has what it keeps
+  -- each session that the boot of session s activated has what it keeps of a name under a key
   abbrev pub is_right_beside : Record → List ℕ → List ℕ → List ℕ → Bool
   is_right_beside s name key under =
       all_have name under (value_by m boots s.activation name key under (activated_at s.activation sessions))
       (activated_at s.activation sessions)
 
+  -- a row whose session isn't there is wrong, if it is of the tag that is judged
   abbrev pub is_right_place : Bool → Option (Record × List ℕ × List ℕ × List ℕ) → Bool
   is_right_place own None = not own
   is_right_place own (Some p) = is_right_beside p.0 p.1 p.2 p.3
 
-  -- a row of one of the two tags, by its key; those of the other tag may be of no session
+  -- a row, by its key; those of neither tag are passed over
   abbrev pub is_right_key : List ℕ → Bool
   is_right_key [] = true
   is_right_key (first ∷ rest) =

@@ -17,8 +17,8 @@ returns-clause-right c =
     let m = c.args.rows.now in
     let tag = c.args.tag in
     IfOk-weaker c.are_right_keys.result _ _ (λ right f e scale.
-    kept_agrees m scale tag c.requires.tag (are_kept m tag c.requires.tag (rw (← c.requires.sessions, ← c.requires.boots)
-    (f e).1) (f e).0)) c.are_right_keys.ensures.right
+    kept_agrees m scale tag c.requires.tag (are_kept m tag c.requires.tag
+    (rw (← c.requires.sessions, ← c.requires.boots) (f e).1) (f e).0)) c.are_right_keys.ensures.right
 
 pub returns-clause-wrong : goal.returns-clause-wrong
 returns-clause-wrong c =
