@@ -1,7 +1,12 @@
 mod AloneRows
+mod EraValues
 mod FileRows
+mod KeptKeys
+mod KeptPlaces
+mod KeptSteps
 mod KeyOrder
 mod KeysRead
+mod Lookups
 mod MomentLists
 mod MomentSteps
 mod NameRows
@@ -12,6 +17,7 @@ mod OpenedValues
 mod OpenedWorld
 mod OwnParts
 mod RightBoots
+mod RightKeptRows
 mod RightNames
 mod RightRecords
 mod SessionLists
@@ -20,3 +26,4 @@ mod SessionSteps
 mod SettledChanges
 mod SettledFiles
 mod SettledNames
+mod WrongKeptRows

@@ -1,5 +1,7 @@
 pub mod BadRows
 pub mod FileKeys
+pub mod KeptRows
+pub mod RightKept
 pub mod RightRows
 pub mod RowBytes
 pub mod RowSessions

@@ -4,7 +4,14 @@
 mod alone;
 mod boots;
 mod files;
+mod eras;
+mod keeping;
+mod kept;
+mod kept_laws;
+#[cfg(test)]
+mod kept_tests;
 mod laws;
+mod lookup;
 mod rows;
 mod sessions;
 mod settled;
@@ -13,6 +20,8 @@ mod tests;
 
 pub use alone::is_right_alone;
 pub use boots::{Boots, opened_boots};
+pub use kept::is_right_kept;
+pub use kept_laws::{kept_rows_are_those_of_eras, kept_rows_are_what_sessions_keep};
 pub use laws::{files_are_those_of_kept_modules, names_have_what_sessions_give};
 pub use sessions::opened_sessions;
 pub use settled::{SettledTags, settled_tags};
