@@ -1,7 +1,7 @@
 //! What a boot makes of each session, and which records it changes: `docs/boot.md`. No two sessions look at each other.
-ghost use Rattle.std.specs.Prelude.{◌≡◌, ◌++◌, OnOk, flat_map, is_some};
+ghost use Rattle.std.specs.Prelude.{◌≡◌, ◌++◌, OnOk, flat_map, is_some, if◌then◌else◌};
 ghost use Rattle.std.specs.List.{AllByRecursion, list_all};
-ghost use Rattle.apex_base.specs.Rollbacks.{not_enabled, no_longer, is_expired};
+ghost use Rattle.apex_base.specs.Rollbacks.{given_up, not_enabled, no_longer, is_expired};
 ghost use Rattle.package_store.specs.Settled.{HasPart};
 ghost use Rattle.session_record.specs.Room.{HasRoom};
 ghost use Rattle.apex_world.specs.Boot.{ended, reverted, keeps_rollback, rebuilt_in, rebuilt, kept_in, aged, changed_to};
@@ -67,12 +67,7 @@ fn boot_session<M: Mounter>(
 }
 
 /// Notes a session whose state was another before.
-fn note(
-    alloc: Global,
-    before: State,
-    r: &Record,
-    noted: &mut Noted,
-) -> Result<(), AllocError>
+fn note(alloc: Global, before: State, r: &Record, noted: &mut Noted) -> Result<(), AllocError>
     requires { HasRoom r.now }
     ensures changes { OnOk result (noted.new.changes.items
         ≡ noted.old.changes.items ++ changed_to (record r.now { state = before }) r.now) }
@@ -127,9 +122,7 @@ fn revert(r: &mut Record)
 fn rebuild(r: &mut Record, image: &Image)
     ensures { r.new ≡ rebuilt image.now r.old }
 {
-    if !keeps_rollback(image, r) {
-        r.rollback = RollbackState::given_up(r.rollback);
-    }
+    r.rollback = rollback_left(image, r);
     match r.state {
         State::Activated => {
             if !r.print.is_same(&image.print) {
@@ -143,6 +136,17 @@ fn rebuild(r: &mut Record, image: &Image)
         | State::RevertInProgress
         | State::Reverted
         | State::Aborted => {}
+    }
+}
+
+/// The rollback's state after the image. Where there is none, the image needn't be looked at.
+fn rollback_left(image: &Image, r: &Record) -> Option<RollbackState>
+    ensures { result ≡ if keeps_rollback image.now r.now then r.now.rollback else given_up r.now.rollback }
+{
+    if r.rollback.is_none() || keeps_rollback(image, r) {
+        r.rollback
+    } else {
+        RollbackState::given_up(r.rollback)
     }
 }
 

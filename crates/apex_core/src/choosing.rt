@@ -1,11 +1,15 @@
 //! Why a part doesn't work, and what a boot chooses, by rows: `docs/rows.md`, "After a boot". A module that is kept is
 //! looked at by its key alone.
-ghost use Rattle.std.specs.Prelude.{◌≡◌, ◌≤◌, ◌<◌, IfOk, OnOk, codes, insert, length, option_map};
+ghost use Rattle.std.specs.Prelude.{◌≡◌, ◌≤◌, ◌<◌, List, IfOk, OnOk, codes, insert, length, option_map};
+ghost use Rattle.std.specs.BTreeMap as tree;
 ghost use Rattle.std.specs.List.{AllByRecursion};
 ghost use Rattle.std.specs.Option.{option_copied};
 ghost use Rattle.std.specs.Ordering.{is_lt, nat_cmp};
 ghost use Rattle.std.specs.Cmp.Lexicographic.{slice_cmp};
+ghost use Rattle.apex_base.specs.declared.records.Record.{Record};
+ghost use Rattle.apex_base.specs.Held.{target_of};
 ghost use Rattle.apex_base.specs.Keys.{FileOf, key_text};
+ghost use Rattle.package_store.specs.Latest.{AreHeld};
 ghost use Rattle.package_store.specs.Settled.{HasPart, HaveParts};
 ghost use Rattle.apex_world.specs.BootByRows.{key_in, kept_case, target_case_in, case_in, cause_in, choice_in, pick_in};
 ghost use Rattle.apex_world.specs.BootByRows.{chosen_in};
@@ -14,9 +18,10 @@ ghost use Rattle.apex_world.specs.Soundness.{key_of, is_same_key_at};
 
 use apex_base::{
     Case, Cause, FilePath, Module, Mounter, Name, Part, Pick, Place, Record, SessionId, Target,
-    Version, held,
+    Version,
 };
 use apex_world::{BootOrder, Image, Package, SharedModule};
+use package_store::{HeldByName, held_by_name, target_of_name};
 use row_map::Rows;
 use std::alloc::{AllocError, Global};
 
@@ -169,12 +174,12 @@ impl<'a, M: Mounter> Selection<'a, M> {
         }
     }
 
-    fn pick(&self, alloc: Global, sessions: &[Record], m: &Package) -> Result<Pick, AllocError>
-        requires { HaveParts sessions.now }
-        ensures { IfOk result
-            (λ pick. pick ≡ pick_in (M.mounting self.now.mounter.now) self.now.rows.now sessions.now m.now) }
+    fn pick(&self, alloc: Global, held: &HeldByName, m: &Package) -> Result<Pick, AllocError>
+        requires { HasPart (target_of (tree.get (slice_cmp nat_cmp) held.now m.now.name)) }
+        ensures { (sessions : List Record) → AreHeld sessions held.now → IfOk result
+            (λ pick. pick ≡ pick_in (M.mounting self.now.mounter.now) self.now.rows.now sessions m.now) }
     {
-        let target = held(sessions, &m.name);
+        let target = target_of_name(held, &m.name);
         let chosen = self.choice(alloc, &target, m)?;
         Ok(Pick {
             name: m.name,
@@ -183,18 +188,15 @@ impl<'a, M: Mounter> Selection<'a, M> {
     }
 
     /// What is chosen for each name of the image, ascending by name.
-    pub(crate) fn choose(
-        &self,
-        alloc: Global,
-        sessions: &[Record],
-    ) -> Result<Vec<Pick>, AllocError>
+    pub(crate) fn choose(&self, alloc: Global, sessions: &[Record]) -> Result<Vec<Pick>, AllocError>
         requires { HaveParts sessions.now }
         ensures { IfOk result (λ picks. picks.items ≡ chosen_in (M.mounting self.now.mounter.now)
             self.now.rows.now sessions.now self.now.order.now.image.modules) }
     {
+        let held = held_by_name(alloc, sessions)?;
         let mut picks = Vec::new(alloc);
         for m in self.image().modules.as_slice() {
-            let pick = self.pick(alloc, sessions, m)?;
+            let pick = self.pick(alloc, &held, m)?;
             put_pick(&mut picks, pick)?;
         }
         Ok(picks)

@@ -52,13 +52,11 @@ pub(crate) fn judge_abort(
     let aborted = session_in(alloc, r, next, r.rollback)?;
     let mut batch = record_rows(alloc, &aborted)?;
     take_files(alloc, rows, first_target(r.parts.as_slice()), &mut batch)?;
+    let patch = Patch::session(alloc, place, aborted)?;
     Ok(Judged {
         reply: Reply::Done,
         rows: batch,
-        patch: Patch::Session {
-            place,
-            session: aborted,
-        },
+        patch,
     })
 }
 
@@ -87,14 +85,11 @@ pub(crate) fn judge_success(
     } else {
         success_rows(alloc, rows, &tables.sessions, &session)?
     };
+    let patch = Patch::success(alloc, place, session, clock)?;
     Ok(Judged {
         reply: Reply::Done,
         rows: batch,
-        patch: Patch::Success {
-            place,
-            session,
-            clock,
-        },
+        patch,
     })
 }
 

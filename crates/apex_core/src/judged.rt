@@ -1,36 +1,68 @@
 //! What a call answers, and what it changes.
-ghost use Rattle.std.specs.Prelude.{◌≡◌, []};
+ghost use Rattle.std.specs.Prelude.{◌≡◌, [], IfOk};
 ghost use Rattle.std.specs.Cmp.Lexicographic.{slice_cmp};
 ghost use Rattle.std.specs.List.Sorted.{IsStrictlySortedBy};
 ghost use Rattle.std.specs.Ordering.{nat_cmp};
 ghost use Rattle.row_codec.specs.Batch.{keys_of};
-ghost use Rattle.apex_core.specs.declared.judged.Patch.TheVariants.{Nothing};
+ghost use Rattle.apex_core.specs.declared.judged.Patch.TheVariants.{Nothing, Session, Success, New};
 
-use apex_base::{Millis, Record};
+use apex_base::{Boxed, Millis, Record};
 use apex_world::Reply;
 use row_codec::Row;
-use std::alloc::Global;
+use std::alloc::{AllocError, Global};
 
-/// What changes in the tables.
+/// What changes in the tables. Sessions are boxed, so that an answer which changes nothing stays small.
 #[derive(Drop)]
 pub enum Patch {
     Nothing,
     /// The session at a place is this one.
     Session {
         place: usize,
-        session: Record,
+        session: Boxed<Record>,
     },
     /// The session at a place is this one, and the clock stands at this moment.
     Success {
         place: usize,
-        session: Record,
+        session: Boxed<Record>,
         clock: Millis,
     },
     /// This session comes to stand at a place, and all from there on after it.
     New {
         place: usize,
-        session: Record,
+        session: Boxed<Record>,
     },
+}
+
+impl Patch {
+    pub(crate) fn session(alloc: Global, place: usize, session: Record) -> Result<Self, AllocError>
+        ensures { IfOk result (λ patch. patch ≡ Session place session) }
+    {
+        let session = Boxed::new(alloc, session)?;
+        Ok(Patch::Session { place, session })
+    }
+
+    pub(crate) fn success(
+        alloc: Global,
+        place: usize,
+        session: Record,
+        clock: Millis,
+    ) -> Result<Self, AllocError>
+        ensures { IfOk result (λ patch. patch ≡ Success place session clock) }
+    {
+        let session = Boxed::new(alloc, session)?;
+        Ok(Patch::Success {
+            place,
+            session,
+            clock,
+        })
+    }
+
+    pub(crate) fn new(alloc: Global, place: usize, session: Record) -> Result<Self, AllocError>
+        ensures { IfOk result (λ patch. patch ≡ New place session) }
+    {
+        let session = Boxed::new(alloc, session)?;
+        Ok(Patch::New { place, session })
+    }
 }
 
 /// The reply to a call, the rows that it changes, and what it changes in the tables.

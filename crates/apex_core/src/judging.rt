@@ -49,10 +49,11 @@ fn judge_ready(
     }
     let session = session_in(alloc, r, next, r.rollback)?;
     let rows = record_rows(alloc, &session)?;
+    let patch = Patch::session(alloc, place, session)?;
     Ok(Judged {
         reply: Reply::Done,
         rows,
-        patch: Patch::Session { place, session },
+        patch,
     })
 }
 

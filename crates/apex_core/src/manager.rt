@@ -42,18 +42,18 @@ fn apply(tables: &mut Tables, patch: Patch, weight: u64)
     tables.weight = weight;
     match patch {
         Patch::Nothing => {}
-        Patch::Session { place, session } => tables.sessions[place] = session,
+        Patch::Session { place, session } => tables.sessions[place] = session.into_inner(),
         Patch::Success {
             place,
             session,
             clock,
         } => {
-            tables.sessions[place] = session;
+            tables.sessions[place] = session.into_inner();
             tables.clock = clock;
         }
         Patch::New { place, session } => {
-            tables.units += kind_units(session.kind);
-            let _ = tables.sessions.insert(place, session);
+            tables.units += kind_units(session.get().kind);
+            let _ = tables.sessions.insert(place, session.into_inner());
         }
     }
 }

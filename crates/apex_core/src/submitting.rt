@@ -105,10 +105,11 @@ fn enter(alloc: Global, tables: &Tables, id: SessionId, p: &Package) -> Result<J
     };
     let session = plain_session(alloc, id, p, &tables.image.get().print)?;
     let rows = submitted_rows(alloc, &session, &p.content)?;
+    let patch = Patch::new(alloc, place, session)?;
     Ok(Judged {
         reply: Reply::Done,
         rows,
-        patch: Patch::New { place, session },
+        patch,
     })
 }
 

@@ -108,6 +108,7 @@ pub fn apex_play<S: Source, K: Sink, G: Gate>(
         Err(ScriptWhy::NoMemory) => return refused(alloc, Status::Memory),
         Ok(script) => script,
     };
+    drop(bytes);
     let mut run = Run::start(alloc);
     let status = match run.play_script(alloc, sink, &script) {
         Err(PutFailed::Sink) => Status::SinkFault,

@@ -3,7 +3,7 @@ ghost use Rattle.std.specs.Prelude.{◌≡◌, ℕ, List, IfOk, OnOk, true};
 ghost use Rattle.std.specs.BTreeMap as tree;
 ghost use Rattle.std.specs.Cmp.Lexicographic.{slice_cmp};
 ghost use Rattle.std.specs.Ordering.{nat_cmp};
-ghost use Rattle.apex_base.specs.Held.{candidate, later};
+ghost use Rattle.apex_base.specs.Held.{candidate, later, target_of};
 ghost use Rattle.package_store.specs.Latest.{AreHeld, with_part};
 
 use apex_base::{Name, Part, Record, Target};
@@ -11,10 +11,10 @@ use std::alloc::{AllocError, Global};
 use std::collections::BTreeMap;
 
 /// By each name that a session that stands has: the latest boot that activated one, and its target.
-pub(crate) type HeldByName = BTreeMap<Name, (u32, Target)>;
+pub type HeldByName = BTreeMap<Name, (u32, Target)>;
 
 /// What all names hold. It goes over the records once.
-pub(crate) fn held_by_name(alloc: Global, records: &[Record]) -> Result<HeldByName, AllocError>
+pub fn held_by_name(alloc: Global, records: &[Record]) -> Result<HeldByName, AllocError>
     ensures { IfOk result (AreHeld records.now) }
 {
     let mut held = BTreeMap::new(alloc);
@@ -24,6 +24,16 @@ pub(crate) fn held_by_name(alloc: Global, records: &[Record]) -> Result<HeldByNa
         }
     }
     Ok(held)
+}
+
+/// The target that a name holds, by what all names hold.
+pub fn target_of_name(held: &HeldByName, name: &Name) -> Target
+    ensures { result ≡ target_of (tree.get (slice_cmp nat_cmp) held.now name.now) }
+{
+    match held.get(name) {
+        Some(best) => best.1,
+        None => Target::Preinstalled,
+    }
 }
 
 fn add_session(held: &mut HeldByName, r: &Record) -> Result<(), AllocError>

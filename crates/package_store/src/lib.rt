@@ -14,6 +14,7 @@ mod settling;
 mod tests;
 mod weight;
 
+pub use held::{HeldByName, held_by_name, target_of_name};
 pub use laws::{rows_are_those_shown, settled_by_key};
 pub use placing::put;
 pub use reading::module_of;

@@ -55,7 +55,7 @@ returns-clause-judged c w s =
     (moved_from r m.session session c.in-Ok.to.1 read c.in_ok-aborted.ensures) _ refl
     (c.in_ok-take_files.ensures
     ∙ ap (λ rows. rows ++ files_taken c.args.rows.now c.first_target.result) c.in_ok-batch.ensures.rows
-    ∙ ap (λ t. record_change session ∷ files_taken c.args.rows.now t) target) refl
+    ∙ ap (λ t. record_change session ∷ files_taken c.args.rows.now t) target) c.in_ok-patch.ensures
 
 pub returns-clause-ascending : goal.returns-clause-ascending
 returns-clause-ascending c =

@@ -63,13 +63,13 @@ returns-clause-judged c w s =
       | then-is_success b ↦ success_again c.args.rows.now c.args.tables.now w s c.args.id
           c.in-Ok.to.0 c.in-Ok.to.1 m session same c.args.time is_time _ c.later_of-clock.result
           (tells ∙ b.if-is_success.true) refl
-          (ap (λ v. v.items) b.batch-is ∙ b.new-batch.ensures.items) refl c.later_of-clock.ensures.later
+          (ap (λ v. v.items) b.batch-is ∙ b.new-batch.ensures.items) c.in_ok-patch.ensures c.later_of-clock.ensures.later
       | else-is_success+in_ok-batch b ↦ success_done c.args.rows.now c.args.tables.now w s c.args.id
           c.in-Ok.to.0 c.in-Ok.to.1 m session same c.args.time is_time (tells ∙ b.if-is_success.false) _
           c.later_of-clock.result refl
           (ap (λ v. v.items) b.batch-is ∙ b.in_ok-batch.ensures.rows
           ∙ ap (λ ss. success_batch c.args.rows.now ss session) b.deref.ensures.value)
-          refl c.later_of-clock.ensures.later
+          c.in_ok-patch.ensures c.later_of-clock.ensures.later
     ]
 
 pub returns-clause-ascending : goal.returns-clause-ascending

@@ -50,7 +50,7 @@ returns-clause-judged c w s =
     ∙ (rw c.deref.ensures.value at c.in-Ok.ensures.id) r here in
     ready_done c.args.rows.now c.args.tables.now w s c.args.id r (place.1 ∙ here) _ i session c.in-Some.next
     (sym c.is_staged.ensures ∙ c.if-is_staged.false) (sym c.moved.ensures ∙ c.in-Some.is) c.in_ok-session.ensures
-    ((rw c.deref.ensures.value at c.in-Ok.ensures.place) session its) refl c.in_ok-rows.ensures.rows refl
+    ((rw c.deref.ensures.value at c.in-Ok.ensures.place) session its) refl c.in_ok-rows.ensures.rows c.in_ok-patch.ensures
 
 pub returns-in_default-clause-judged : goal.returns-in_default-clause-judged
 returns-in_default-clause-judged c w s =

@@ -2,6 +2,7 @@ use Rattle.std.proofs.Common.{◌<◌, length, [], take, sym, ap, ◌∙◌, ari
 use Rattle.std.proofs.lemmas.List.Sums.{fold_more}
 use Rattle.apex_world.specs.BootByRows.{chosen_in, pick_in}
 use Rattle.apex_world.specs.Selection.{with_pick}
+use Rattle.apex_core.proofs.Parts.{held_part}
 use Rattle.apex_core.proofs.choosing.Selection.choose.Goals as goal
 
 pub loop-m-preserved : goal.loop-m-preserved
@@ -16,7 +17,12 @@ loop-m-preserved g c =
     let more = fold_more (λ picks m. with_pick (pick m) picks) [] xs i m lt in
     let so_far = chosen_in mounts c.args.self.now.rows.now c.args.sessions.now (take i xs) in
     c.in_ok-put_pick.ensures
-    ∙ ap (λ p. with_pick p c.loop-m.picks.items) c.in_ok-pick.ensures
+    ∙ ap (λ p. with_pick p c.loop-m.picks.items) (c.in_ok-pick.ensures c.args.sessions.now c.in_ok-held.ensures)
     ∙ ap (with_pick (pick m)) c.loop-m.invariant
     ∙ ap (λ x. with_pick (pick x) so_far) (rw items at c.m-item.is)
     ∙ sym more
+
+pub pick-requires-after_bounds : goal.pick-requires-after_bounds
+pick-requires-after_bounds g c = λ κs b.
+    let found = c.in_ok-held.ensures c.m-item.result.name in
+    rw found (held_part c.args.sessions.now c.m-item.result.name c.requires)
