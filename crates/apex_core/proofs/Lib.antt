@@ -1,3 +1,4 @@
+pub mod BatchOrder
 pub mod BatchRows
 pub mod Batches
 pub mod BootBatches
