@@ -2,6 +2,7 @@
 //! rows and tables.
 #![tactic(auto)]
 
+mod aging;
 mod becoming;
 mod booted;
 mod booting;
@@ -9,6 +10,7 @@ mod choosing;
 mod ending;
 mod judged;
 mod judging;
+mod key_files;
 mod manager;
 mod rows;
 mod sessions;

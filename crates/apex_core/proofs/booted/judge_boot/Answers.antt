@@ -75,20 +75,22 @@ judges g c =
     ∙ picked in
     let changed = flat_map (λ (r : Record). changed_to r (become_in mounts kept order (count + 1) r)) before in
     let changes = c.of.ensures ∙ c.in_ok-boot_sessions.ensures.changes
-    ∙ ap (λ (xs : List Changed). xs ++ changed) c.in_ok-noted.ensures.changes in
-    (settled, record {
-      reply = λ i. record {
-        number = count + 1;
-        changes = changes i;
-        active = told i;
-        boot_loop = c.in_ok-boot_loop.ensures.told i;
-      };
-      rows = are ∙ ap (λ (xs : List Row). xs ++ settled) (c.in_ok-boot_sessions.ensures.rows
-          ∙ ap (λ (xs : List Row). xs ++ record_changes (become_in mounts kept order (count + 1)) before) noted);
-      sessions = after;
-      active = picked;
-      settling = subst (λ (ss : List Record). IsSettling kept ss settled) (c.deref-3.ensures.value ∙ after) settling;
-    })
+    ∙ ap (λ (xs : List Changed). xs ++ changed) c.in_ok-noted.ensures.changes in (
+      settled,
+      record {
+        reply = λ i. record {
+          number = count + 1;
+          changes = changes i;
+          active = told i;
+          boot_loop = c.in_ok-boot_loop.ensures.told i;
+        };
+        rows = are ∙ ap (λ (xs : List Row). xs ++ settled) (c.in_ok-boot_sessions.ensures.rows
+            ∙ ap (λ (xs : List Row). xs ++ record_changes (become_in mounts kept order (count + 1)) before) noted);
+        sessions = after;
+        active = picked;
+        settling = subst (λ (ss : List Record). IsSettling kept ss settled) (c.deref-3.ensures.value ∙ after) settling;
+      },
+    )
 
 pub returns-clause-judged : goal.returns-clause-judged
 returns-clause-judged g c w s o =

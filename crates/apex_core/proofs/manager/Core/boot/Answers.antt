@@ -21,19 +21,20 @@ units_of-units-requires g c =
 pub of-requires : goal.of-requires
 of-requires g c =
     let (w, (s, o)) = c.requires.stored in
-    let mounts = g.M.Mounter.mounting c.args.mounter.now in
-    (boot_world w c.args.order.now mounts,
-    stands_booted c.args.rows w s c.args.order.now o c.requires.alone mounts c.in_ok-judged.judged
-    (c.in_ok-judged.ensures.judged w s o) c.change_all.new.self c.by_key.result.now.entries c.in_ok-change_all.ensures.changed
-    (c.rows_are_those_shown.ensures c.change_all.new.self _ c.by_key.ensures) _ (record {
-      scale = refl;
-      sessions = refl;
-      units = c.units_of-units.ensures ∙ ap units_of c.deref.ensures.value;
-      weight = c.kept_weight-weight.ensures;
-      image = c.in_ok-image.ensures;
-      active = refl;
-      clock = refl;
-    }))
+    let mounts = g.M.Mounter.mounting c.args.mounter.now in (
+      boot_world w c.args.order.now mounts,
+      stands_booted c.args.rows w s c.args.order.now o c.requires.alone mounts c.in_ok-judged.judged
+          (c.in_ok-judged.ensures.judged w s o) c.change_all.new.self c.by_key.result.now.entries c.in_ok-change_all.ensures.changed
+          (c.rows_are_those_shown.ensures c.change_all.new.self _ c.by_key.ensures) _ (record {
+            scale = refl;
+            sessions = refl;
+            units = c.units_of-units.ensures ∙ ap units_of c.deref.ensures.value;
+            weight = c.kept_weight-weight.ensures;
+            image = c.in_ok-image.ensures;
+            active = refl;
+            clock = refl;
+          }),
+    )
 
 pub returns-clause-stands : goal.returns-clause-stands
 returns-clause-stands g c w s o =

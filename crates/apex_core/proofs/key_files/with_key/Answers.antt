@@ -2,7 +2,7 @@ use Rattle.std.proofs.Common.{◌≡◌, Some, option_map, ap, ◌∙◌, refl}
 use Rattle.apex_base.specs.Modules.{FileMap}
 use Rattle.apex_world.specs.Soundness.{key_of}
 use Rattle.apex_core.proofs.KeyModules.{more_ok, no_key, one_key}
-use Rattle.apex_core.proofs.choosing.with_key.Goals as goal
+use Rattle.apex_core.proofs.key_files.with_key.Goals as goal
 
 pub returns-in_default : goal.returns-in_default
 returns-in_default c =
