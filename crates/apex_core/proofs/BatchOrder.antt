@@ -1,6 +1,7 @@
 -- The batch of a boot ascends by key: the row of boots, records by their ids, names and files. Callers want
 -- `boot_ascends`.
-use Rattle.std.proofs.Common.{◌≡◌, ◌*◌, ◌/◌, ◌%◌, ◌+◌, ◌<◌, ◌^◌, ℕ, Bool, true, false, cond, eqb, List, [], ◌∷◌, ◌++◌, Some, sym}
+use Rattle.std.proofs.Common.{◌≡◌, ◌*◌, ◌/◌, ◌%◌, ◌+◌, ◌<◌, ◌^◌, ℕ, Bool, true, false, cond, eqb, List, [], ◌∷◌, ◌++◌}
+use Rattle.std.proofs.Common.{Some, sym}
 use Rattle.std.proofs.Common.{subst, ◌∙◌, refl, inl, inr, arith}
 use Rattle.std.specs.Int.{w32, to_be_bytes}
 use Rattle.std.specs.Cmp.Lexicographic.{slice_cmp}
@@ -60,7 +61,8 @@ id_below : (m n : ℕ) → m < n → n < 2 ^ 32 → slice_cmp nat_cmp (to_be_byt
 id_below m n l low =
     four_less (m / 16777216 % 256) (m / 65536 % 256) (m / 256 % 256) (m % 256) (n / 16777216 % 256)
     (n / 65536 % 256) (n / 256 % 256) (n % 256) (omega arith) (omega arith) (omega arith) (omega arith) (omega arith)
-    (omega arith) (omega (arith, l, from_be_bytes-to_be_bytes_4 m (omega (arith, l, low)), from_be_bytes-to_be_bytes_4 n low))
+    (omega arith)
+    (omega (arith, l, from_be_bytes-to_be_bytes_4 m (omega (arith, l, low)), from_be_bytes-to_be_bytes_4 n low))
 
 -- Records
 

@@ -38,8 +38,8 @@ fn key_file(alloc: Global, session: SessionId, part: u32) -> Result<Vec<u8>, All
     Ok(key)
 }
 
-/// A module of this key and no other file, since modules compare their keys themselves. A kept key was a module's file, so
-/// it fits.
+/// A module of this key and no other file, since modules compare their keys themselves. A kept key was a file of a
+/// module, so it fits.
 fn with_key(alloc: Global, key: Option<&[u8]>) -> Result<SharedModule, AllocError>
     ensures { IfOk result (λ kept. key_of kept ≡ option_map (λ bytes. bytes.now) key.entry) }
 {

@@ -34,8 +34,8 @@ loop-r-preserved g c =
       turned_front =
           ap (slice_set ys i) turned
           ∙ map_over_more f xs ys i x lt c.loop-r.invariant.turned_front c.r-item.is;
-      changed_front = noted_more (λ (r : Record). changed_to r (f r)) xs i x c.args.noted.now.changes.items changes lt here
-          now_changes c.loop-r.invariant.changed_front;
+      changed_front = noted_more (λ (r : Record). changed_to r (f r)) xs i x c.args.noted.now.changes.items changes
+          lt here now_changes c.loop-r.invariant.changed_front;
       written_front = noted_more (λ (r : Record). record_change r (f r)) xs i x c.args.noted.now.rows.items rows lt here
           now_rows c.loop-r.invariant.written_front;
     }

@@ -102,5 +102,5 @@ pub returns-clause-ascending : goal.returns-clause-ascending
 returns-clause-ascending g c =
     let (w, (s, o)) = c.requires.stored in
     let (settled, j) = judges g c in
-    batch_ascends c.args.rows.now w s c.args.order.now (g.M.Mounter.mounting c.args.mounter.now) _ _ settled (judged g c)
-    c.in_ok-sessions.ensures j
+    batch_ascends c.args.rows.now w s c.args.order.now (g.M.Mounter.mounting c.args.mounter.now) _ _ settled
+    (judged g c) c.in_ok-sessions.ensures j
