@@ -74,8 +74,8 @@ batch_value (r ∷ rs) m row up (inr i) = batch_value rs (changed_at m r.key r.v
 
 -- Order
 
-each_append : (P : List ℕ → Type 0) (xs ys : List Row) → AllByRecursion P (keys_of xs) → AllByRecursion P (keys_of ys)
-    → AllByRecursion P (keys_of (xs ++ ys))
+pub each_append : (P : List ℕ → Type 0) (xs ys : List Row) → AllByRecursion P (keys_of xs)
+    → AllByRecursion P (keys_of ys) → AllByRecursion P (keys_of (xs ++ ys))
 each_append P [] ys a b = b
 each_append P (x ∷ xs) ys a b = (a.0, each_append P xs ys a.1 b)
 

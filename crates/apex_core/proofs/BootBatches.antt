@@ -183,7 +183,8 @@ module _ (w : World) (law : Lawful w) (plain : IsPlain w) (order : BootOrder) (o
     stays_if (BackupOf name) i a b c = named_stays (BackupOf name) i tt c
     stays_if (FileOf id part path) i a b c = named_stays (FileOf id part path) i tt c
     stays_if (DataOf name key) i a b c = same_data w v plain (boot_plain w plain order alone mounts) name key
-    stays_if (SnapshotOf id name key) i a b c = same_snapshot w v plain (boot_plain w plain order alone mounts) id name key
+    stays_if (SnapshotOf id name key) i a b c =
+        same_snapshot w v plain (boot_plain w plain order alone mounts) id name key
     stays_if (PreRestoreOf id name key) i a b c =
         same_pre_restore w v plain (boot_plain w plain order alone mounts) id name key
     stays_if (WatchOf observer name) i a b c =

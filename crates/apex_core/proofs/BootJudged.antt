@@ -1,12 +1,16 @@
--- What a boot is judged to do, of each world of its rows. Callers want `rooms`, `parts_left`, `small_number` and
--- `booted_is`.
+-- What a boot is judged to do, of each world of its rows. Callers want `rooms`, `parts_left`, `small_number`,
+-- `batch_ascends` and `booted_is`.
 use Rattle.std.proofs.Common.{◌≡◌, [], ◌∷◌, ◌++◌, ℕ, ◌+◌, ◌<◌, ◌^◌, List, sym, ap, subst, ◌∙◌}
+use Rattle.std.specs.Cmp.Lexicographic.{slice_cmp}
 use Rattle.std.specs.List.{AllByRecursion}
+use Rattle.std.specs.List.Sorted.{IsStrictlySortedBy}
+use Rattle.std.specs.Ordering.{nat_cmp}
 use Rattle.apex_base.specs.declared.records.Record.{Record}
 use Rattle.apex_base.specs.Keys.{RowMap}
 use Rattle.apex_base.specs.Windows.{last_five}
 use Rattle.apex_base.proofs.MemberLemmas.{in_each}
 use Rattle.row_codec.specs.declared.batch.Row.{Row}
+use Rattle.row_codec.specs.Batch.{keys_of}
 use Rattle.row_map.specs.Rows.{changed}
 use Rattle.package_store.specs.Settled.{HaveParts}
 use Rattle.session_record.specs.Room.{HasRoom}
@@ -24,9 +28,10 @@ use Rattle.apex_world.proofs.QuietBoots.{boots_by_rows}
 use Rattle.apex_core.specs.declared.booted.JudgedBoot.{JudgedBoot}
 use Rattle.apex_core.specs.Booted.{record_changes, boots_change, IsSettling, IsBooted}
 use Rattle.apex_core.specs.Core.{IsStored}
+use Rattle.apex_core.proofs.BatchOrder.{boot_ascends}
 use Rattle.apex_core.proofs.BootBatches.{SettlesByKey, boot_leads}
 use Rattle.apex_core.proofs.Judgements.{has_room}
-use Rattle.apex_core.proofs.TurnedSessions.{become_room}
+use Rattle.apex_core.proofs.TurnedSessions.{become_kept, become_room}
 
 -- what the code makes of rows, the boots and the sessions that they open to
 pub record Judges (kept : RowMap) (seen : ℕ × List ℕ) (before : List Record) (order : BootOrder) (mounts : Mounts)
@@ -68,6 +73,21 @@ module _ (kept : RowMap) (w : World) (s : IsStored kept w) where
       → seen.0 + 1 < 2 ^ 32
   small_number order o seen e =
       subst (λ (n : ℕ). n + 1 < 2 ^ 32) (sym (ap (λ (x : ℕ × List ℕ). x.0) (e ∙ boots_are))) o.number
+
+  -- the rows that it changes ascend by key
+  pub batch_ascends : (order : BootOrder) (mounts : Mounts) (seen : ℕ × List ℕ) (before : List Record)
+      (settled : List Row) (judged : JudgedBoot) → before ≡ opened_sessions kept
+      → Judges kept seen before order mounts settled judged
+      → IsStrictlySortedBy (slice_cmp nat_cmp) (keys_of judged.rows.items)
+  batch_ascends order mounts seen before settled judged e j =
+      let same : Judges (rows w) seen w.sessions order mounts settled judged =
+      subst (λ (m : RowMap). Judges m seen w.sessions order mounts settled judged) s.stored
+      (subst (λ (ss : List Record). Judges kept seen ss order mounts settled judged) (e ∙ opened_is) j) in
+      subst (λ (batch : List Row). IsStrictlySortedBy (slice_cmp nat_cmp) (keys_of batch)) (sym same.rows)
+      (boot_ascends w s.lawful (sessions_in mounts (rows w) order (seen.0 + 1) w.sessions) settled same.settling
+      (become_in mounts (rows w) order (seen.0 + 1))
+      (λ r. (become_kept mounts (rows w) order (seen.0 + 1) r).id) (seen.0 + 1)
+      (moments_left order.time (with_moment seen.1 order)))
 
   module _ (order : BootOrder) (o : IsOrderOf w order) (alone : order.observers ≡ []) (mounts : Mounts)
       (by_key : SettlesByKey) where

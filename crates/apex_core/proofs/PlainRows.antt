@@ -51,5 +51,6 @@ module _ (w v : World) (before : IsPlain w) (after : IsPlain v) where
   same_pre_restore id name key = no_pre_restore v after name key id ∙ sym (no_pre_restore w before name key id)
 
   pub same_watch : (observer name : List ℕ) → watch_row v observer name ≡ watch_row w observer name
-  same_watch observer name = ap (λ (t : Watches). option_map (λ (end : ℕ). eight_text end []) (value_of t observer name))
+  same_watch observer name =
+      ap (λ (t : Watches). option_map (λ (end : ℕ). eight_text end []) (value_of t observer name))
       (after.watches ∙ sym before.watches)

@@ -14,7 +14,8 @@ use Rattle.apex_base.specs.Moves.{state_number}
 use Rattle.apex_base.specs.Rollbacks.{given_up, no_longer, is_expired}
 use Rattle.apex_world.specs.declared.calls.BootOrder.{BootOrder}
 use Rattle.apex_world.specs.declared.calls.Image.{Image}
-use Rattle.apex_world.specs.Boot.{reverted_in, reverted, rebuilt_in, rebuilt, activated_in, is_same_build, keeps_rollback}
+use Rattle.apex_world.specs.Boot.{reverted_in, reverted, rebuilt_in, rebuilt, activated_in, is_same_build}
+use Rattle.apex_world.specs.Boot.{keeps_rollback}
 use Rattle.apex_world.specs.Boot.{kept_in, aged}
 use Rattle.apex_world.specs.BootByRows.{cause_in, activated_by_rows, become_in}
 use Rattle.apex_world.specs.Follows.{IsKeptAs}
@@ -162,7 +163,8 @@ module _ (mounts : Mounts) (rows : RowMap) (order : BootOrder) (b : ℕ) (r : Re
 
   become_steps : become_in mounts rows order b r ≡ four
   become_steps =
-      ap (λ (x : Record). aged order.time (activated_by_rows mounts rows order b x)) (rebuilt_plain order.image two two_none)
+      ap (λ (x : Record). aged order.time (activated_by_rows mounts rows order b x))
+      (rebuilt_plain order.image two two_none)
       ∙ aged_plain order.time four four_none
 
   -- a session without a rollback whose state stays is as it was

@@ -24,7 +24,8 @@ use Rattle.row_map.specs.Rows.{changed}
 -- a record is written where the session's state changed
 abbrev pub record_change : Record → Record → List Row
 record_change old new =
-    if state_number old.state == state_number new.state then [] else record { key = key_text (RecordOf new.id); value = Some (record_text new) } ∷ []
+    if state_number old.state == state_number new.state then []
+    else record { key = key_text (RecordOf new.id); value = Some (record_text new) } ∷ []
 
 -- the records that a step of each session changes
 abbrev pub record_changes : (Record → Record) → List Record → List Row

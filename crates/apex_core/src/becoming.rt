@@ -1,23 +1,21 @@
 //! What a boot makes of each session, and which records it changes: `docs/boot.md`. No two sessions look at each other.
 ghost use Rattle.std.specs.Prelude.{◌≡◌, ◌++◌, OnOk, flat_map, is_some, if◌then◌else◌};
 ghost use Rattle.std.specs.List.{AllByRecursion, list_all};
-ghost use Rattle.apex_base.specs.Rollbacks.{given_up, not_enabled, no_longer, is_expired};
+ghost use Rattle.apex_base.specs.Rollbacks.{given_up};
 ghost use Rattle.package_store.specs.Settled.{HasPart};
 ghost use Rattle.session_record.specs.Room.{HasRoom};
-ghost use Rattle.apex_world.specs.Boot.{ended, reverted, keeps_rollback, rebuilt_in, rebuilt, kept_in, aged, changed_to};
+ghost use Rattle.apex_world.specs.Boot.{ended, reverted, keeps_rollback, rebuilt, changed_to};
 ghost use Rattle.apex_world.specs.BootByRows.{activated_by_rows, become_in, sessions_in};
 ghost use Rattle.apex_world.specs.Selection.{preinstalled};
 ghost use Rattle.apex_core.specs.Booted.{record_change, record_changes};
 
+use crate::aging::age;
 use crate::choosing::{Selection, preinstalled};
 use crate::rows::record_rows;
-use apex_base::{Cause, Millis, Mounter, Part, Record, RollbackState, State};
+use apex_base::{Cause, Mounter, Part, Record, RollbackState, State};
 use apex_world::{Changed, Image, Package};
 use row_codec::Row;
 use std::alloc::{AllocError, Global};
-
-/// How long a rollback is available, in milliseconds: 14 days.
-const LIFETIME: u64 = 1209600000;
 
 /// The sessions whose state a boot changed, and the rows that it changes.
 #[derive(Drop)]
@@ -186,55 +184,6 @@ fn activate<M: Mounter>(
         | State::Aborted => {}
     }
     Ok(())
-}
-
-/// A rollback isn't kept for a session that has failed, nor for longer than it lives.
-fn age(r: &mut Record, time: Millis)
-    ensures { r.new ≡ aged time r.old }
-{
-    r.rollback = if is_expired(time, r) {
-        no_longer(r.rollback)
-    } else {
-        kept_in(r.state, r.rollback)
-    };
-}
-
-fn is_expired(time: Millis, r: &Record) -> bool
-    ensures { result ≡ is_expired time r.now }
-{
-    RollbackState::is_available(r.rollback) && r.moment.number() + LIFETIME <= time.number()
-}
-
-fn no_longer(rollback: Option<RollbackState>) -> Option<RollbackState>
-    ensures { result ≡ no_longer rollback }
-{
-    match rollback {
-        Some(RollbackState::Available) => Some(RollbackState::Deleted),
-        _ => rollback,
-    }
-}
-
-fn not_enabled(rollback: Option<RollbackState>) -> Option<RollbackState>
-    ensures { result ≡ not_enabled rollback }
-{
-    match rollback {
-        Some(RollbackState::Enabling) => Some(RollbackState::Deleted),
-        _ => rollback,
-    }
-}
-
-fn kept_in(state: State, rollback: Option<RollbackState>) -> Option<RollbackState>
-    ensures { result ≡ kept_in state rollback }
-{
-    match state {
-        State::ActivationFailed | State::Reverted => not_enabled(rollback),
-        State::Verified
-        | State::Staged
-        | State::Activated
-        | State::Success
-        | State::RevertInProgress
-        | State::Aborted => rollback,
-    }
 }
 
 fn end(r: &mut Record, state: State, cause: Cause)

@@ -40,8 +40,12 @@ pub fn judge_boot<M: Mounter>(
 ) -> Result<JudgedBoot, AllocError>
     requires stored { (w : World) × (IsStored rows.now w × IsOrderOf w order.now) }
     requires alone { order.now.observers ≡ [] }
-    ensures { (w : World) → IsStored rows.now w → IsOrderOf w order.now
+    ensures judged { (w : World) → IsStored rows.now w → IsOrderOf w order.now
         → IfOk result (λ judged. IsBooted judged rows.now w order.now (M.mounting mounter.now)) }
+
+    // The row of boots stands first, then records by their ids, then names and files.
+    ensures ascending { IfOk result
+        (λ judged. IsStrictlySortedBy (slice_cmp nat_cmp) (keys_of judged.rows.items)) }
 {
     let boots = opened_boots(alloc, rows)?;
     let mut sessions = opened_sessions(alloc, rows)?;

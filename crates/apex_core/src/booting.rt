@@ -1,11 +1,11 @@
 //! A boot from rows: `docs/boot.md`, and what becomes of the rows in `docs/rows.md`, "After a boot".
 ghost use Rattle.std.specs.Prelude.{◌≡◌, ◌<◌, ◌≤◌, ◌^◌};
-ghost use Rattle.apex_world.specs.Limits.{kind_units, units_of};
+ghost use Rattle.apex_world.specs.Limits.{units_of};
 
 use crate::booted::judge_boot;
-use crate::manager::Core;
+use crate::manager::{Core, kind_units};
 use crate::tables::Tables;
-use apex_base::{Kind, Mounter, Record};
+use apex_base::{Mounter, Record};
 use apex_world::{BootOrder, BootReply};
 use package_store::{kept_weight, rows_are_those_shown};
 use row_map::Rows;
@@ -61,18 +61,7 @@ fn units_of(sessions: &[Record]) -> u32
 {
     let mut units = 0;
     for r in sessions {
-        units += session_units(r.kind);
+        units += kind_units(r.kind);
     }
     units
-}
-
-fn session_units(kind: Kind) -> u32
-    ensures units { result ≡ kind_units kind }
-    ensures few { result ≤ 2 }
-{
-    match kind {
-        Kind::Plain => 1,
-        Kind::WithRollback => 2,
-        Kind::RollbackOf(_) => 0,
-    }
 }

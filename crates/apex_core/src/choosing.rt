@@ -1,6 +1,6 @@
 //! Why a part doesn't work, and what a boot chooses, by rows: `docs/rows.md`, "After a boot". A module that is kept is
 //! looked at by its key alone.
-ghost use Rattle.std.specs.Prelude.{◌≡◌, ◌≤◌, ◌<◌, List, IfOk, OnOk, codes, insert, length, option_map};
+ghost use Rattle.std.specs.Prelude.{◌≡◌, ◌≤◌, ◌<◌, List, IfOk, OnOk, insert, length};
 ghost use Rattle.std.specs.BTreeMap as tree;
 ghost use Rattle.std.specs.List.{AllByRecursion};
 ghost use Rattle.std.specs.Option.{option_copied};
@@ -8,19 +8,17 @@ ghost use Rattle.std.specs.Ordering.{is_lt, nat_cmp};
 ghost use Rattle.std.specs.Cmp.Lexicographic.{slice_cmp};
 ghost use Rattle.apex_base.specs.declared.records.Record.{Record};
 ghost use Rattle.apex_base.specs.Held.{target_of};
-ghost use Rattle.apex_base.specs.Keys.{FileOf, key_text};
 ghost use Rattle.package_store.specs.Latest.{AreHeld};
 ghost use Rattle.package_store.specs.Settled.{HasPart, HaveParts};
 ghost use Rattle.apex_world.specs.BootByRows.{key_in, kept_case, target_case_in, case_in, cause_in, choice_in, pick_in};
 ghost use Rattle.apex_world.specs.BootByRows.{chosen_in};
 ghost use Rattle.apex_world.specs.Selection.{preinstalled, preinstalled_case, fallback, with_pick};
-ghost use Rattle.apex_world.specs.Soundness.{key_of, is_same_key_at};
 
+use crate::key_files::has_key_of;
 use apex_base::{
-    Case, Cause, FilePath, Module, Mounter, Name, Part, Pick, Place, Record, SessionId, Target,
-    Version,
+    Case, Cause, Mounter, Name, Part, Pick, Place, Record, SessionId, Target, Version,
 };
-use apex_world::{BootOrder, Image, Package, SharedModule};
+use apex_world::{BootOrder, Image, Package};
 use package_store::{HeldByName, held_by_name, target_of_name};
 use row_map::Rows;
 use std::alloc::{AllocError, Global};
@@ -55,22 +53,6 @@ impl<'a, M: Mounter> Selection<'a, M> {
         }
     }
 
-    fn has_key_of(
-        &self,
-        alloc: Global,
-        session: SessionId,
-        part: u32,
-        m: &Package,
-    ) -> Result<bool, AllocError>
-        requires { part < 256 }
-        ensures { IfOk result
-            (λ same. same ≡ is_same_key_at (key_in self.now.rows.now session part) (key_of m.now.content)) }
-    {
-        let key = key_file(alloc, session, part)?;
-        let kept = with_key(alloc, self.rows.get(&key))?;
-        Ok(kept.has_key_of(&m.content))
-    }
-
     fn kept_case(
         &self,
         alloc: Global,
@@ -86,7 +68,7 @@ impl<'a, M: Mounter> Selection<'a, M> {
         if version < m.version {
             return Ok(Some(Case::BelowPreinstalled));
         }
-        if !self.has_key_of(alloc, session, part, m)? {
+        if !has_key_of(alloc, self.rows, session, part, m)? {
             return Ok(Some(Case::KeyDiffers));
         }
         if self.mounter.mounts(&m.name, version, Place::Data) {
@@ -200,33 +182,6 @@ impl<'a, M: Mounter> Selection<'a, M> {
             put_pick(&mut picks, pick)?;
         }
         Ok(picks)
-    }
-}
-
-/// The key of the row of a kept module's key.
-fn key_file(alloc: Global, session: SessionId, part: u32) -> Result<Vec<u8>, AllocError>
-    requires { part < 256 }
-    ensures { IfOk result (λ key. key.items ≡ key_text (FileOf session part (codes "apex_pubkey"))) }
-{
-    let mut key = Vec::with_capacity(alloc, 17)?;
-    key.push(5u8)?;
-    key.extend_from_slice(&session.0.to_be_bytes())?;
-    key.push(part as u8)?;
-    key.extend_from_slice(FilePath::key().as_bytes())?;
-    Ok(key)
-}
-
-/// A module of this key and no other file. Modules are compared by their keys as modules.
-fn with_key(alloc: Global, key: Option<&[u8]>) -> Result<SharedModule, AllocError>
-    ensures { IfOk result (λ kept. key_of kept ≡ option_map (λ bytes. bytes.now) key.entry) }
-{
-    let Some(bytes) = key else {
-        return SharedModule::of(alloc, Module::new(alloc));
-    };
-    let mut files = Module::new(alloc);
-    match files.put(FilePath::key(), bytes.to_vec(alloc)?) {
-        Ok(()) => SharedModule::of(alloc, files),
-        Err(_) => Err(AllocError),
     }
 }
 

@@ -3,6 +3,7 @@
 #![tactic(auto)]
 
 mod admitting;
+mod aging;
 mod becoming;
 mod booted;
 mod booting;
@@ -11,6 +12,7 @@ mod ending;
 mod files;
 mod judged;
 mod judging;
+mod key_files;
 mod manager;
 mod rows;
 mod running;

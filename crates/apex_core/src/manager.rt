@@ -1,5 +1,5 @@
 //! The manager of one thread.
-ghost use Rattle.std.specs.Prelude.{◌≡◌, ◌<◌, ◌^◌, IfOk, OnOk, OnErr, find, option_map};
+ghost use Rattle.std.specs.Prelude.{◌≡◌, ◌≤◌, ◌<◌, ◌^◌, IfOk, OnOk, OnErr, find, option_map};
 ghost use Rattle.apex_base.specs.declared.records.Record.{Record};
 ghost use Rattle.apex_base.specs.Sessions.{has_id};
 ghost use Rattle.apex_world.specs.Calls.{call_at};
@@ -58,8 +58,10 @@ fn apply(tables: &mut Tables, patch: Patch, weight: u64)
     }
 }
 
-fn kind_units(kind: Kind) -> u32
-    ensures { result ≡ kind_units kind }
+/// How many units a session of this kind counts.
+pub(crate) fn kind_units(kind: Kind) -> u32
+    ensures units { result ≡ kind_units kind }
+    ensures few { result ≤ 2 }
 {
     match kind {
         Kind::Plain => 1,

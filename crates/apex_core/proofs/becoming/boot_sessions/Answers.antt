@@ -20,19 +20,22 @@ loop-r-preserved g c =
     next_untouched f xs c.loop-r.r-items i x lt c.loop-r.invariant.turned_front c.r-item.is in
     let ys = c.loop-r.r-items in
     let same : get_or ys i x ≡ x = sym c.r-item.is in
-    let turned = c.in_ok-boot_session.ensures.session ∙ ap f same in
+    let s = c.boot_session.new.r in
+    let turned : s ≡ f x = c.in_ok-boot_session.ensures.session ∙ ap f same in
+    let changes = c.loop-r.noted.changes.items in
+    let rows = c.loop-r.noted.rows.items in
+    let now_changes : c.boot_session.new.noted.changes.items ≡ changes ++ changed_to x (f x) =
+    c.in_ok-boot_session.ensures.changes ∙ ap (λ (r : Record). changes ++ changed_to (get_or ys i x) r) turned
+    ∙ ap (λ (r : Record). changes ++ changed_to r (f x)) same in
+    let now_rows : c.boot_session.new.noted.rows.items ≡ rows ++ record_change x (f x) =
+    c.in_ok-boot_session.ensures.rows ∙ ap (λ (r : Record). rows ++ record_change (get_or ys i x) r) turned
+    ∙ ap (λ (r : Record). rows ++ record_change r (f x)) same in
     record {
       turned_front =
           ap (slice_set ys i) turned
           ∙ map_over_more f xs ys i x lt c.loop-r.invariant.turned_front c.r-item.is;
-      changed_front = noted_more (λ (r : Record). changed_to r (f r)) xs i x _ _ lt here
-          (c.in_ok-boot_session.ensures.changes
-          ∙ ap (λ (r : Record). c.loop-r.noted.changes.items ++ changed_to (get_or ys i x) r) turned
-          ∙ ap (λ (r : Record). c.loop-r.noted.changes.items ++ changed_to r (f x)) same)
-          c.loop-r.invariant.changed_front;
-      written_front = noted_more (λ (r : Record). record_change r (f r)) xs i x _ _ lt here
-          (c.in_ok-boot_session.ensures.rows
-          ∙ ap (λ (r : Record). c.loop-r.noted.rows.items ++ record_change (get_or ys i x) r) turned
-          ∙ ap (λ (r : Record). c.loop-r.noted.rows.items ++ record_change r (f x)) same)
-          c.loop-r.invariant.written_front;
+      changed_front = noted_more (λ (r : Record). changed_to r (f r)) xs i x c.args.noted.now.changes.items changes
+          lt here now_changes c.loop-r.invariant.changed_front;
+      written_front = noted_more (λ (r : Record). record_change r (f r)) xs i x c.args.noted.now.rows.items rows lt here
+          now_rows c.loop-r.invariant.written_front;
     }

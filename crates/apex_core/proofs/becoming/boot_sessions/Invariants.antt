@@ -14,6 +14,7 @@ invariant-loop-r g l =
     record {
       turned_front : l.r-items ≡ sessions_in mounts given.rows.now given.order.now given.number before
           ++ drop l.r-index l.initial.r-items;
-      changed_front : l.noted.changes.items ≡ l.initial.noted.changes.items ++ flat_map (λ r. changed_to r (step r)) before;
+      changed_front : l.noted.changes.items
+          ≡ l.initial.noted.changes.items ++ flat_map (λ r. changed_to r (step r)) before;
       written_front : l.noted.rows.items ≡ l.initial.noted.rows.items ++ record_changes step before;
     }

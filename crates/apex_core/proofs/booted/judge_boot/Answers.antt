@@ -6,8 +6,10 @@ use Rattle.apex_world.specs.Boot.{changed_to}
 use Rattle.apex_world.specs.BootByRows.{become_in, sessions_in, chosen_in}
 use Rattle.apex_world.specs.BootByRows.{with_moment}
 use Rattle.apex_world.specs.Plain.{moments_left}
+use Rattle.apex_core.specs.declared.booted.JudgedBoot.{JudgedBoot}
 use Rattle.apex_core.specs.Booted.{record_changes, boots_change, IsSettling}
-use Rattle.apex_core.proofs.BootJudged.{rooms, parts_left, small_number, booted_is}
+use Rattle.apex_core.proofs.BootJudged.{Judges, rooms, parts_left, small_number, batch_ascends, booted_is}
+use Rattle.apex_core.proofs.booted.judge_boot.Given as given
 use Rattle.apex_core.proofs.booted.judge_boot.Goals as goal
 
 pub overflow_add-number : goal.overflow_add-number
@@ -35,8 +37,24 @@ with_settled-requires g c =
     (c.in_ok-boots.boots.count + 1) c.in_ok-sessions.sessions.items c.deref-3.result.now c.in_ok-sessions.ensures
     (c.deref-3.ensures.value ∙ c.in_ok-boot_sessions.ensures.sessions)
 
-pub returns : goal.returns
-returns g c w s o =
+-- what is judged
+abbrev judged : (g : given.Over) → goal.After-drop-moments-2 g → JudgedBoot
+judged g c = record {
+  reply = record {
+    number = c.in_ok-boots.boots.count + 1;
+    changes = c.of.result;
+    active = c.of-2.result;
+    boot_loop = c.in_ok-boot_loop.boot_loop;
+  };
+  rows = c.in_ok-batch.batch;
+  sessions = c.boot_sessions.new.sessions;
+  active = c.in_ok-active.active;
+}
+
+judges : (g : given.Over) (c : goal.After-drop-moments-2 g)
+    → (settled : List Row) × Judges c.args.rows.now (c.in_ok-boots.boots.count, c.in_ok-boots.boots.moments.items)
+    c.in_ok-sessions.sessions.items c.args.order.now (g.M.Mounter.mounting c.args.mounter.now) settled (judged g c)
+judges g c =
     let mounts = g.M.Mounter.mounting c.args.mounter.now in
     let kept = c.args.rows.now in
     let order = c.args.order.now in
@@ -57,18 +75,32 @@ returns g c w s o =
     ∙ picked in
     let changed = flat_map (λ (r : Record). changed_to r (become_in mounts kept order (count + 1) r)) before in
     let changes = c.of.ensures ∙ c.in_ok-boot_sessions.ensures.changes
-    ∙ ap (λ (xs : List Changed). xs ++ changed) c.in_ok-noted.ensures.changes in
-    booted_is kept w s order o c.requires.alone mounts c.settled_by_key.ensures (count, recent) before settled _
-    c.in_ok-boots.ensures c.in_ok-sessions.ensures (record {
-      reply = λ i. record {
-        number = count + 1;
-        changes = changes i;
-        active = told i;
-        boot_loop = c.in_ok-boot_loop.ensures.told i;
-      };
-      rows = are ∙ ap (λ (xs : List Row). xs ++ settled) (c.in_ok-boot_sessions.ensures.rows
-          ∙ ap (λ (xs : List Row). xs ++ record_changes (become_in mounts kept order (count + 1)) before) noted);
-      sessions = after;
-      active = picked;
-      settling = subst (λ (ss : List Record). IsSettling kept ss settled) (c.deref-3.ensures.value ∙ after) settling;
-    })
+    ∙ ap (λ (xs : List Changed). xs ++ changed) c.in_ok-noted.ensures.changes in (
+      settled,
+      record {
+        reply = λ i. record {
+          number = count + 1;
+          changes = changes i;
+          active = told i;
+          boot_loop = c.in_ok-boot_loop.ensures.told i;
+        };
+        rows = are ∙ ap (λ (xs : List Row). xs ++ settled) (c.in_ok-boot_sessions.ensures.rows
+            ∙ ap (λ (xs : List Row). xs ++ record_changes (become_in mounts kept order (count + 1)) before) noted);
+        sessions = after;
+        active = picked;
+        settling = subst (λ (ss : List Record). IsSettling kept ss settled) (c.deref-3.ensures.value ∙ after) settling;
+      },
+    )
+
+pub returns-clause-judged : goal.returns-clause-judged
+returns-clause-judged g c w s o =
+    let (settled, j) = judges g c in
+    booted_is c.args.rows.now w s c.args.order.now o c.requires.alone (g.M.Mounter.mounting c.args.mounter.now)
+    c.settled_by_key.ensures _ _ settled (judged g c) c.in_ok-boots.ensures c.in_ok-sessions.ensures j
+
+pub returns-clause-ascending : goal.returns-clause-ascending
+returns-clause-ascending g c =
+    let (w, (s, o)) = c.requires.stored in
+    let (settled, j) = judges g c in
+    batch_ascends c.args.rows.now w s c.args.order.now (g.M.Mounter.mounting c.args.mounter.now) _ _ settled
+    (judged g c) c.in_ok-sessions.ensures j

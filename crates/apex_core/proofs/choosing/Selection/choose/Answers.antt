@@ -1,5 +1,6 @@
-use Rattle.std.proofs.Common.{◌<◌, length, [], take, sym, ap, ◌∙◌, arith}
+use Rattle.std.proofs.Common.{◌≡◌, ◌<◌, length, [], take, sym, ap, ◌∙◌, arith}
 use Rattle.std.proofs.lemmas.List.Sums.{fold_more}
+use Rattle.apex_world.specs.declared.calls.Image.{Image}
 use Rattle.apex_world.specs.BootByRows.{chosen_in, pick_in}
 use Rattle.apex_world.specs.Selection.{with_pick}
 use Rattle.apex_core.proofs.Parts.{held_part}
@@ -12,7 +13,8 @@ loop-m-preserved g c =
     let xs = c.args.self.now.order.now.image.modules in
     let i = c.loop-m.m-index in
     let m = c.m-item.result in
-    let items = c.as_slice-m-items.ensures ∙ ap (λ (x : _). x.modules) c.image.ensures in
+    let items : c.as_slice-m-items.result.now ≡ xs =
+    c.as_slice-m-items.ensures ∙ ap (λ (image : Image). image.modules) c.image.ensures in
     let lt : i < length xs = omega (arith, ap length items) in
     let more = fold_more (λ picks m. with_pick (pick m) picks) [] xs i m lt in
     let so_far = chosen_in mounts c.args.self.now.rows.now c.args.sessions.now (take i xs) in

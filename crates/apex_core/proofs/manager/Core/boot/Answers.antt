@@ -9,14 +9,14 @@ pub kept_weight-weight-requires : goal.kept_weight-weight-requires
 kept_weight-weight-requires g c =
     let (w, (s, o)) = c.requires.stored in
     light_rows c.args.rows w s c.args.order.now o c.requires.alone (g.M.Mounter.mounting c.args.mounter.now)
-    c.in_ok-judged.judged (c.in_ok-judged.ensures w s o) c.change_all.new.self c.by_key.result.now.entries
+    c.in_ok-judged.judged (c.in_ok-judged.ensures.judged w s o) c.change_all.new.self c.by_key.result.now.entries
     c.in_ok-change_all.ensures.changed (c.rows_are_those_shown.ensures c.change_all.new.self _ c.by_key.ensures)
 
 pub units_of-units-requires : goal.units_of-units-requires
 units_of-units-requires g c =
     let (w, (s, o)) = c.requires.stored in
     few_units c.args.rows w s c.args.order.now o c.requires.alone (g.M.Mounter.mounting c.args.mounter.now)
-    c.in_ok-judged.judged (c.in_ok-judged.ensures w s o) c.deref.result.now c.deref.ensures.value
+    c.in_ok-judged.judged (c.in_ok-judged.ensures.judged w s o) c.deref.result.now c.deref.ensures.value
 
 pub of-requires : goal.of-requires
 of-requires g c =
@@ -24,7 +24,8 @@ of-requires g c =
     let mounts = g.M.Mounter.mounting c.args.mounter.now in (
       boot_world w c.args.order.now mounts,
       stands_booted c.args.rows w s c.args.order.now o c.requires.alone mounts c.in_ok-judged.judged
-          (c.in_ok-judged.ensures w s o) c.change_all.new.self c.by_key.result.now.entries c.in_ok-change_all.ensures.changed
+          (c.in_ok-judged.ensures.judged w s o) c.change_all.new.self c.by_key.result.now.entries
+          c.in_ok-change_all.ensures.changed
           (c.rows_are_those_shown.ensures c.change_all.new.self _ c.by_key.ensures) _ (record {
             scale = refl;
             sessions = refl;
@@ -41,7 +42,8 @@ returns-clause-stands g c w s o =
     let mounts = g.M.Mounter.mounting c.args.mounter.now in
     subst (λ (core : Kept). StandsFor core.rows core.tables (boot_world w c.args.order.now mounts)) (sym c.of.ensures)
     (stands_booted c.args.rows w s c.args.order.now o c.requires.alone mounts c.in_ok-judged.judged
-    (c.in_ok-judged.ensures w s o) c.change_all.new.self c.by_key.result.now.entries c.in_ok-change_all.ensures.changed
+    (c.in_ok-judged.ensures.judged w s o) c.change_all.new.self c.by_key.result.now.entries
+    c.in_ok-change_all.ensures.changed
     (c.rows_are_those_shown.ensures c.change_all.new.self _ c.by_key.ensures) _ (record {
       scale = refl;
       sessions = refl;

@@ -2,7 +2,7 @@ use Rattle.std.proofs.Common.{◌≡◌, Some, option_map, ap, ◌∙◌, refl}
 use Rattle.apex_base.specs.Modules.{FileMap}
 use Rattle.apex_world.specs.Soundness.{key_of}
 use Rattle.apex_core.proofs.KeyModules.{more_ok, no_key, one_key}
-use Rattle.apex_core.proofs.choosing.with_key.Goals as goal
+use Rattle.apex_core.proofs.key_files.with_key.Goals as goal
 
 pub returns-in_default : goal.returns-in_default
 returns-in_default c =
@@ -15,4 +15,5 @@ returns-in-Ok c =
     more_ok (λ (kept : FileMap). kept ≡ c.put.new.self)
     (λ kept. key_of kept ≡ option_map (λ bytes. bytes.now) c.args.key)
     c.of-in-Ok.result c.of-in-Ok.ensures
-    (λ kept e. one_key kept c.in_ok-to_vec.field-0.items (e ∙ c.in-Ok.ensures.put ∙ rw (c.new-files.ensures, c.key.ensures) refl) ∙ ap Some same ∙ rw c.in-Some.is refl)
+    (λ kept e. one_key kept c.in_ok-to_vec.field-0.items
+    (e ∙ c.in-Ok.ensures.put ∙ rw (c.new-files.ensures, c.key.ensures) refl) ∙ ap Some same ∙ rw c.in-Some.is refl)
