@@ -1,6 +1,6 @@
 -- What a call leaves that was judged and done. Callers want `weighs`,
--- `small_now`, `small_next`, `weighs_next`, `stands_next`, `stands_same` and `stands_still`.
-use Rattle.std.proofs.Common.{◌≡◌, ◌≤◌, ◌<◌, ◌^◌, ℕ, Some, sym, ap, subst, ◌∙◌, arith, Result, Ok, Err}
+-- `small_now`, `small_next`, `weighs_next`, `stands_next`, `stands_same`, `stands_still` and `stands_quiet`.
+use Rattle.std.proofs.Common.{◌≡◌, ◌≤◌, ◌<◌, ◌^◌, ℕ, [], Some, sym, ap, subst, ◌∙◌, refl, arith, Result, Ok, Err}
 use Rattle.std.specs.Prelude.{OnOk, OnErr}
 use Rattle.apex_base.specs.declared.numbers.Scale.{Scale}
 use Rattle.apex_base.specs.declared.numbers.Scale.TheVariants.{Small, Standard}
@@ -16,6 +16,8 @@ use Rattle.apex_world.specs.World.{World}
 use Rattle.apex_world.proofs.RowWeightLemmas.{file_rows_weigh}
 use Rattle.row_map.specs.Rows.{changed}
 use Rattle.apex_core.specs.declared.judged.Judged.{Judged}
+use Rattle.apex_core.specs.declared.judged.Patch.{Patch}
+use Rattle.apex_core.specs.declared.judged.Patch.TheVariants.{Nothing}
 use Rattle.apex_core.specs.declared.tables.Tables.{Tables}
 use Rattle.apex_core.specs.Core.{StandsFor}
 use Rattle.apex_core.specs.Judged.{IsJudged, IsPatched, IsSame, patched, clock_after, units_after}
@@ -86,3 +88,20 @@ pub stands_still : {X Y : Type 0} (result : Result X Y) (kept : RowMap) (tables 
     → (x : World) × StandsFor kept tables x
 stands_still (Ok x) kept tables w v next stays = (v, next)
 stands_still (Err y) kept tables w v next stays = (w, stays)
+
+-- the same rows and tables, where the call changes nothing
+pub stands_quiet : (kept : RowMap) (tables : Tables) (w : World) (call : Call) (judged : Judged)
+    → StandsFor kept tables w → IsJudged judged kept w call → judged.rows.items ≡ [] → judged.patch ≡ Nothing
+    → StandsFor kept tables (step w call).world
+stands_quiet kept tables w call judged s j none nothing =
+    stands_next kept kept tables tables w call judged tables.weight s j (sym (ap (changed kept) none))
+    (weighs kept tables w s ∙ ap kept_weight (sym (ap (changed kept) none)) ∙ weighs_next kept tables w s call judged j)
+    (subst (λ (p : Patch). IsPatched p tables.weight tables tables) (sym nothing) (record {
+      sessions = refl;
+      clock = refl;
+      units = refl;
+      weight = refl;
+      scale = refl;
+      image = refl;
+      active = refl;
+    }))

@@ -1,5 +1,5 @@
 //! What a call answers, and what it changes.
-ghost use Rattle.std.specs.Prelude.{◌≡◌, [], IfOk};
+ghost use Rattle.std.specs.Prelude.{◌≡◌, [], IsTrue, IfOk};
 ghost use Rattle.std.specs.Cmp.Lexicographic.{slice_cmp};
 ghost use Rattle.std.specs.List.Sorted.{IsStrictlySortedBy};
 ghost use Rattle.std.specs.Ordering.{nat_cmp};
@@ -74,6 +74,13 @@ pub struct Judged {
 }
 
 impl Judged {
+    /// Whether nothing changes.
+    pub(crate) fn changes_nothing(&self) -> bool
+        ensures { IsTrue result → (self.now.rows.items ≡ []) × (self.now.patch ≡ Nothing) }
+    {
+        matches!(self.patch, Patch::Nothing) && self.rows.is_empty()
+    }
+
     /// A reply, and nothing changes.
     #[tactic(auto, using(crate::proofs::Batches::none_ascend))]
     pub(crate) fn quiet(alloc: Global, reply: Reply) -> Self

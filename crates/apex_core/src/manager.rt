@@ -87,6 +87,9 @@ fn perform(
         → OnErr result (StandsFor rows.new tables.new w) }
 {
     let judged = judge(alloc, rows, tables, call)?;
+    if judged.changes_nothing() {
+        return Ok(judged.reply);
+    }
     let reply = judged.reply;
     let batch = judged.rows;
     let patch = judged.patch;

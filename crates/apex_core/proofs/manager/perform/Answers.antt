@@ -2,7 +2,7 @@ use Rattle.std.proofs.Common.{◌≡◌, ◌∙◌, refl}
 use Rattle.apex_world.specs.Calls.{call_at}
 use Rattle.row_map.specs.Rows.{changed}
 use Rattle.row_map.proofs.Rooms.{table_after}
-use Rattle.apex_core.proofs.Performed.{weighs, small_now, small_next, weighs_next, stands_next, stands_same}
+use Rattle.apex_core.proofs.Performed.{weighs, small_now, small_next, weighs_next, stands_next, stands_same, stands_quiet}
 use Rattle.apex_core.proofs.manager.perform.Goals as goal
 
 pub weight_after-weight-requires-clause-weighs : goal.weight_after-weight-requires-clause-weighs
@@ -35,3 +35,10 @@ returns-clause-stands c w s =
     (call_at c.args.call.now) judged c.weight_after-weight.result
     (stands_same c.args.rows.now c.args.rows.now c.args.tables.now c.make_room.new.tables w s refl
     c.in_ok-make_room.ensures.same) j rows after c.apply.ensures
+
+pub returns-then-changes_nothing-clause-stands : goal.returns-then-changes_nothing-clause-stands
+returns-then-changes_nothing-clause-stands c w s =
+    let judged = c.in_ok-judged.judged in
+    let (none, nothing) = c.if-changes_nothing.ensures in
+    stands_quiet c.args.rows.now c.args.tables.now w (call_at c.args.call.now) judged s
+    (c.in_ok-judged.ensures.judged w s) none nothing
