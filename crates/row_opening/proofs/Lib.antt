@@ -1,6 +1,7 @@
 mod AloneRows
 mod EraValues
 mod FileRows
+mod ForeignTags
 mod KeptKeys
 mod KeptPlaces
 mod KeptSteps
@@ -26,4 +27,6 @@ mod SessionSteps
 mod SettledChanges
 mod SettledFiles
 mod SettledNames
+mod TagsInTurn
+mod WholeRows
 mod WrongKeptRows
