@@ -1,7 +1,6 @@
 mod AloneRows
 mod EraValues
 mod FileRows
-mod ForeignTags
 mod KeptKeys
 mod KeptPlaces
 mod KeptSteps
@@ -27,6 +26,7 @@ mod SessionSteps
 mod SettledChanges
 mod SettledFiles
 mod SettledNames
+mod StrangeTags
 mod TagsInTurn
 mod WholeRows
 mod WrongKeptRows

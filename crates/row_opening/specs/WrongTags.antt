@@ -1,5 +1,5 @@
 -- The least tag at which rows are wrong: docs/rows.md, "Opening". The tags of keys are below 10.
-use Rattle.std.specs.Prelude.{ℕ, nat_le, nat_lt, List, [], ◌∷◌, Option, Some, None, if◌then◌else◌}
+use Rattle.std.specs.Prelude.{ℕ, ◌<◌, nat_le, nat_lt, List, [], ◌∷◌, Option, Some, None, if◌then◌else◌}
 use Rattle.apex_base.specs.declared.numbers.Scale.{Scale}
 use Rattle.apex_base.specs.declared.why.Why.{Why}
 use Rattle.apex_base.specs.declared.why.Why.TheVariants.{Fault, NoMemory}
@@ -8,6 +8,10 @@ use Rattle.row_opening.specs.declared.opened.BadRows.{BadRows}
 use Rattle.row_opening.specs.declared.settled.SettledTags.{SettledTags}
 use Rattle.row_opening.specs.BadRows.{AgreesAt, IsLeastDifference}
 use Rattle.row_opening.specs.SettledTags.{Tells}
+
+-- at all tags below this both have the same
+abbrev pub AgreeBelow : RowMap → ℕ → Type 0
+AgreeBelow m tag = (low : ℕ) → low < tag → (scale : Scale) → AgreesAt m scale low
 
 -- the least tag at which they differ, or none where they differ at no tag
 abbrev pub IsWrongTag : RowMap → Option ℕ → Type 0
@@ -25,10 +29,10 @@ pub record AreSettled (m : RowMap) (tags : SettledTags) : Type 0 where
   pub backup : Tells m 4 tags.backup
   pub files : Tells m 5 tags.files
 
--- the tag of a key, if it is above those of keys
-abbrev pub foreign_in : List ℕ → Option ℕ
-foreign_in [] = None
-foreign_in (tag ∷ key) = if nat_le 10 tag then Some tag else None
+-- what a row's key begins with, if that is above the tags of keys
+abbrev pub strange_in : List ℕ → Option ℕ
+strange_in [] = None
+strange_in (tag ∷ key) = if nat_le 10 tag then Some tag else None
 
 abbrev pub lesser : Option ℕ → Option ℕ → Option ℕ
 lesser None other = other
@@ -36,6 +40,6 @@ lesser (Some a) None = Some a
 lesser (Some a) (Some b) = if nat_lt b a then Some b else Some a
 
 -- the least such tag
-abbrev pub foreign_tag : List (List ℕ × List ℕ) → Option ℕ
-foreign_tag [] = None
-foreign_tag (row ∷ rows) = lesser (foreign_in row.0) (foreign_tag rows)
+abbrev pub strange_tag : List (List ℕ × List ℕ) → Option ℕ
+strange_tag [] = None
+strange_tag (row ∷ rows) = lesser (strange_in row.0) (strange_tag rows)

@@ -3,7 +3,7 @@ ghost use Rattle.std.specs.Prelude.{◌≡◌, IfOk};
 ghost use Rattle.std.specs.FinMap as fin;
 ghost use Rattle.apex_world.specs.Opened.{opened_boots, opened_sessions};
 ghost use Rattle.row_opening.specs.SettledTags.{Tells};
-ghost use Rattle.row_opening.specs.WrongTags.{IsWrongTag, AreSettled, lesser, foreign_in, foreign_tag};
+ghost use Rattle.row_opening.specs.WrongTags.{IsWrongTag, AreSettled, lesser, strange_in, strange_tag};
 
 use crate::alone::is_right_alone;
 use crate::kept::is_right_kept;
@@ -12,8 +12,8 @@ use crate::settled::{SettledTags, settled_tags};
 use row_map::Rows;
 use std::alloc::{AllocError, Global};
 
-/// No key has this tag or a greater one.
-const FOREIGN: u8 = 10;
+/// All tags of keys are below this number.
+const TAGS: u8 = 10;
 
 /// The least tag whose rows aren't those of the world that the rows open to, if there is one.
 pub(crate) fn wrong_tag(
@@ -26,12 +26,12 @@ pub(crate) fn wrong_tag(
     ensures { IfOk result (IsWrongTag rows.now) }
 {
     let settled = settled_tags(alloc, rows, opened.sessions.as_slice())?;
-    for tag in 0..FOREIGN {
+    for tag in 0..TAGS {
         if !is_right(alloc, tag, rows, opened, settled)? {
             return Ok(Some(tag));
         }
     }
-    Ok(foreign_tag(rows))
+    Ok(strange_tag(rows))
 }
 
 /// Whether the rows of a tag are those of the world that the rows open to.
@@ -57,23 +57,23 @@ fn is_right(
     }
 }
 
-/// The least tag of a row that no key has, of those above the tags of keys.
-fn foreign_tag(rows: &Rows) -> Option<u8>
-    ensures { result ≡ foreign_tag (fin.entries rows.now) }
+/// The least tag of a row that is above the tags of keys.
+fn strange_tag(rows: &Rows) -> Option<u8>
+    ensures { result ≡ strange_tag (fin.entries rows.now) }
 {
     let mut least = None;
     for (key, _) in rows.by_key() {
-        least = lesser(least, foreign_in(key.as_slice()));
+        least = lesser(least, strange_in(key.as_slice()));
     }
     least
 }
 
-/// The tag of a key, if it is above those of keys.
-fn foreign_in(key: &[u8]) -> Option<u8>
-    ensures { result ≡ foreign_in key.now }
+/// What a row's key begins with, if that is above the tags of keys.
+fn strange_in(key: &[u8]) -> Option<u8>
+    ensures { result ≡ strange_in key.now }
 {
     match key {
-        [tag, ..] if *tag >= FOREIGN => Some(*tag),
+        [tag, ..] if *tag >= TAGS => Some(*tag),
         _ => None,
     }
 }

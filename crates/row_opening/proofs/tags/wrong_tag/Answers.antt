@@ -1,6 +1,6 @@
 use Rattle.std.proofs.Common.{sym, subst, arith}
 use Rattle.row_opening.specs.WrongTags.{IsWrongTag}
-use Rattle.row_opening.proofs.ForeignTags.{least_wrong}
+use Rattle.row_opening.proofs.StrangeTags.{least_wrong}
 use Rattle.row_opening.proofs.TagsInTurn.{one_more, least_here}
 use Rattle.row_opening.proofs.tags.wrong_tag.Goals as goal
 
@@ -19,5 +19,5 @@ loop-tag-preserved c =
 
 pub returns : goal.returns
 returns c =
-    subst (IsWrongTag c.args.rows.now) (sym c.foreign_tag.ensures)
+    subst (IsWrongTag c.args.rows.now) (sym c.strange_tag.ensures)
     (least_wrong c.args.rows.now (λ low l. c.loop-tag.invariant low (omega (arith, l, c.loop-tag-test.false))))

@@ -1,6 +1,5 @@
--- The tags above those of keys. Callers want `lesser_none`, `lesser_more` and
--- `least_wrong`.
-use Rattle.std.proofs.Common.{◌≡◌, ◌⊎◌, ℕ, ◌<◌, ◌≤◌, Bool, true, false, cond, leb, ltb, List, [], ◌∷◌}
+-- The tags above those of keys. Callers want `lesser_none`, `lesser_more` and `least_wrong`.
+use Rattle.std.proofs.Common.{◌≡◌, ◌⊎◌, ℕ, ◌≤◌, Bool, true, false, cond, leb, ltb, List, [], ◌∷◌}
 use Rattle.std.proofs.Common.{Option, Some, None, sym, ap, subst, ◌∙◌, refl, inl, inr, arith}
 use Rattle.std.specs.FinMap as fin
 use Rattle.std.proofs.lemmas.Bool.{cases_lt, lt-ltb, le-ltb, ltb-true, ltb-false, leb-true, le-leb, ne_eqb}
@@ -9,7 +8,7 @@ use Rattle.apex_base.specs.Keys.{RowMap, key_of}
 use Rattle.apex_base.specs.Members.{In}
 use Rattle.apex_base.proofs.RowMaps.{entry_get, in_entries}
 use Rattle.row_opening.specs.BadRows.{AgreesAt, DiffersAt}
-use Rattle.row_opening.specs.WrongTags.{IsWrongTag, lesser, foreign_in, foreign_tag}
+use Rattle.row_opening.specs.WrongTags.{AgreeBelow, IsWrongTag, lesser, strange_in, strange_tag}
 use Rattle.row_opening.proofs.KeysRead.{no_key_row}
 
 abbrev Entry : Type 0
@@ -69,19 +68,19 @@ one_of (Some a) (Some b) tag e = one_if (ltb b a) a b tag e
 -- The tags of a list of rows
 
 -- the least tag is at most each
-at_most : (es : List Entry) (e : Entry) (tag : ℕ) → In e es → foreign_in e.0 ≡ Some tag → IsAtMost (foreign_tag es) tag
+at_most : (es : List Entry) (e : Entry) (tag : ℕ) → In e es → strange_in e.0 ≡ Some tag → IsAtMost (strange_tag es) tag
 at_most [] e tag h is = absurd h
 at_most (x ∷ es) e tag (inl same) is =
-    left_most (foreign_in x.0) (foreign_tag es) tag
-    (rw (ap (λ (y : Entry). foreign_in y.0) same ∙ is) (omega arith))
+    left_most (strange_in x.0) (strange_tag es) tag
+    (rw (ap (λ (y : Entry). strange_in y.0) same ∙ is) (omega arith))
 at_most (x ∷ es) e tag (inr h) is =
-    right_most (foreign_in x.0) (foreign_tag es) tag (at_most es e tag h is)
+    right_most (strange_in x.0) (strange_tag es) tag (at_most es e tag h is)
 
--- and one of them
-found_row : (es : List Entry) (tag : ℕ) → foreign_tag es ≡ Some tag → (e : Entry) × In e es × (foreign_in e.0 ≡ Some tag)
+-- and there is a row that has it
+found_row : (es : List Entry) (tag : ℕ) → strange_tag es ≡ Some tag → (e : Entry) × In e es × (strange_in e.0 ≡ Some tag)
 found_row [] tag e = absurd (cc e)
 found_row (x ∷ es) tag e =
-    elim (one_of (foreign_in x.0) (foreign_tag es) tag e) [
+    elim (one_of (strange_in x.0) (strange_tag es) tag e) [
       | inl here ↦ (x, inl refl, here)
       | inr there ↦ let (row, member, is) = found_row es tag there in (row, inr member, is)
     ]
@@ -96,14 +95,14 @@ front_if true first tag rest e is =
     )
 front_if false first tag rest e is = absurd (cc is)
 
-front_of : (key : List ℕ) (tag : ℕ) → foreign_in key ≡ Some tag
+front_of : (key : List ℕ) (tag : ℕ) → strange_in key ≡ Some tag
     → (rest : List ℕ) × (10 ≤ tag) × (key ≡ tag ∷ rest)
 front_of [] tag is = absurd (cc is)
 front_of (first ∷ rest) tag is =
     let (high, same) = front_if (leb 10 first) first tag rest refl is in (rest, high, same)
 
-foreign_front : (tag : ℕ) (rest : List ℕ) → 10 ≤ tag → foreign_in (tag ∷ rest) ≡ Some tag
-foreign_front tag rest high = rw (le-leb 10 tag high) refl
+strange_front : (tag : ℕ) (rest : List ℕ) → 10 ≤ tag → strange_in (tag ∷ rest) ≡ Some tag
+strange_front tag rest high = rw (le-leb 10 tag high) refl
 
 -- no key has such a tag
 no_key : (tag : ℕ) (rest : List ℕ) → 10 ≤ tag → key_of (tag ∷ rest) ≡ None
@@ -123,26 +122,26 @@ no_key tag rest high = rw (
 module _ (m : RowMap) (scale : Scale) where
   -- no row of a tag, where the least is above it
   none_here : (tag : ℕ) (rest : List ℕ) (o : Option (List ℕ)) → 10 ≤ tag → fin.get m (tag ∷ rest) ≡ o
-      → (IsAtMost (foreign_tag (fin.entries m)) tag → ⊥) → o ≡ None
+      → (IsAtMost (strange_tag (fin.entries m)) tag → ⊥) → o ≡ None
   none_here tag rest None high e above = refl
   none_here tag rest (Some value) high e above =
       absurd (above (at_most (fin.entries m) (tag ∷ rest, value) tag (in_entries m (tag ∷ rest) value e)
-      (foreign_front tag rest high)))
+      (strange_front tag rest high)))
 
-  foreign_agrees : (tag : ℕ) → 10 ≤ tag → (IsAtMost (foreign_tag (fin.entries m)) tag → ⊥) → AgreesAt m scale tag
-  foreign_agrees tag high above rest =
+  strange_agrees : (tag : ℕ) → 10 ≤ tag → (IsAtMost (strange_tag (fin.entries m)) tag → ⊥) → AgreesAt m scale tag
+  strange_agrees tag high above rest =
       none_here tag rest (fin.get m (tag ∷ rest)) high refl above
       ∙ sym (no_key_row m scale (tag ∷ rest) (no_key tag rest high))
 
-  -- where all tags of keys agree, so do those below the least foreign one
-  below_agrees : ((low : ℕ) → low < 10 → AgreesAt m scale low)
-      → (tag : ℕ) → (IsAtMost (foreign_tag (fin.entries m)) tag → ⊥) → AgreesAt m scale tag
+  -- where all tags of keys agree, so do those below the least strange one
+  below_agrees : AgreeBelow m 10 → (tag : ℕ) → (IsAtMost (strange_tag (fin.entries m)) tag → ⊥)
+      → AgreesAt m scale tag
   below_agrees agree tag above = elim (cases_lt tag 10) [
-    | inl low ↦ agree tag low
-    | inr high ↦ foreign_agrees tag high above
+    | inl low ↦ agree tag low scale
+    | inr high ↦ strange_agrees tag high above
   ]
 
-  -- a row of a foreign tag differs
+  -- a row of a strange tag differs
   row_differs : (tag : ℕ) (rest value : List ℕ) → 10 ≤ tag → fin.get m (tag ∷ rest) ≡ Some value
       → DiffersAt m scale tag
   row_differs tag rest value high e = (
@@ -150,26 +149,23 @@ module _ (m : RowMap) (scale : Scale) where
     λ same. absurd (cc (sym e ∙ same ∙ no_key_row m scale (tag ∷ rest) (no_key tag rest high))),
   )
 
-  foreign_differs : (tag : ℕ) → foreign_tag (fin.entries m) ≡ Some tag → DiffersAt m scale tag
-  foreign_differs tag e =
+  strange_differs : (tag : ℕ) → strange_tag (fin.entries m) ≡ Some tag → DiffersAt m scale tag
+  strange_differs tag e =
       let (row, member, is) = found_row (fin.entries m) tag e in
       let (rest, high, front) = front_of row.0 tag is in
       row_differs tag rest row.1 high (ap (fin.get m) (sym front) ∙ entry_get m row member)
 
-abbrev KeysAgree : RowMap → Type 0
-KeysAgree m = (low : ℕ) → low < 10 → (scale : Scale) → AgreesAt m scale low
-
-wrong_if : (m : RowMap) (o : Option ℕ) → foreign_tag (fin.entries m) ≡ o → KeysAgree m → IsWrongTag m o
+wrong_if : (m : RowMap) (o : Option ℕ) → strange_tag (fin.entries m) ≡ o → AgreeBelow m 10 → IsWrongTag m o
 wrong_if m None e agree =
-    λ scale tag. below_agrees m scale (λ low l. agree low l scale) tag
+    λ scale tag. below_agrees m scale agree tag
     (subst (λ (o : Option ℕ). IsAtMost o tag → ⊥) (sym e) (λ never. never))
 wrong_if m (Some tag) e agree =
     λ scale. record {
-      here = foreign_differs m scale tag e;
-      before = λ less l. below_agrees m scale (λ low k. agree low k scale) less
+      here = strange_differs m scale tag e;
+      before = λ less l. below_agrees m scale agree less
           (subst (λ (o : Option ℕ). IsAtMost o less → ⊥) (sym e) (λ most. absurd (omega (arith, most, l))));
     }
 
--- where all tags of keys agree, the least foreign one is the least wrong one
-pub least_wrong : (m : RowMap) → KeysAgree m → IsWrongTag m (foreign_tag (fin.entries m))
-least_wrong m agree = wrong_if m (foreign_tag (fin.entries m)) refl agree
+-- where all tags of keys agree, the least strange one is the least wrong one
+pub least_wrong : (m : RowMap) → AgreeBelow m 10 → IsWrongTag m (strange_tag (fin.entries m))
+least_wrong m agree = wrong_if m (strange_tag (fin.entries m)) refl agree
