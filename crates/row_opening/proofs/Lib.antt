@@ -26,4 +26,7 @@ mod SessionSteps
 mod SettledChanges
 mod SettledFiles
 mod SettledNames
+mod StrangeTags
+mod TagsInTurn
+mod WholeRows
 mod WrongKeptRows

@@ -6,3 +6,4 @@ pub mod RightRows
 pub mod RowBytes
 pub mod RowSessions
 pub mod SettledTags
+pub mod WrongTags

@@ -3,8 +3,8 @@
 
 mod alone;
 mod boots;
-mod files;
 mod eras;
+mod files;
 mod keeping;
 mod kept;
 mod kept_laws;
@@ -12,9 +12,11 @@ mod kept_laws;
 mod kept_tests;
 mod laws;
 mod lookup;
+mod opened;
 mod rows;
 mod sessions;
 mod settled;
+mod tags;
 #[cfg(test)]
 mod tests;
 
@@ -23,5 +25,6 @@ pub use boots::{Boots, opened_boots};
 pub use kept::is_right_kept;
 pub use kept_laws::{kept_rows_are_those_of_eras, kept_rows_are_what_sessions_keep};
 pub use laws::{files_are_those_of_kept_modules, names_have_what_sessions_give};
+pub use opened::{BadRows, OpenedRows, open_rows};
 pub use sessions::opened_sessions;
 pub use settled::{SettledTags, settled_tags};

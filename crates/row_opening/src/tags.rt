@@ -1,0 +1,92 @@
+//! The least tag at which rows are wrong: those of keys in turn, and then the tags that no key has.
+ghost use Rattle.std.specs.Prelude.{◌≡◌, IfOk};
+ghost use Rattle.std.specs.FinMap as fin;
+ghost use Rattle.apex_world.specs.Opened.{opened_boots, opened_sessions};
+ghost use Rattle.row_opening.specs.SettledTags.{Tells};
+ghost use Rattle.row_opening.specs.WrongTags.{IsWrongTag, AreSettled, lesser, strange_in, strange_tag};
+
+use crate::alone::is_right_alone;
+use crate::kept::is_right_kept;
+use crate::opened::OpenedRows;
+use crate::settled::{SettledTags, settled_tags};
+use row_map::Rows;
+use std::alloc::{AllocError, Global};
+
+/// All tags of keys are below this number.
+const TAGS: u8 = 10;
+
+/// The least tag whose rows aren't those of the world that the rows open to, if there is one.
+pub(crate) fn wrong_tag(
+    alloc: Global,
+    rows: &Rows,
+    opened: &OpenedRows,
+) -> Result<Option<u8>, AllocError>
+    requires sessions { opened.now.sessions.items ≡ opened_sessions rows.now }
+    requires boots { opened.now.boots.count ≡ (opened_boots rows.now).0 }
+    ensures { IfOk result (IsWrongTag rows.now) }
+{
+    let settled = settled_tags(alloc, rows, opened.sessions.as_slice())?;
+    for tag in 0..TAGS {
+        if !is_right(alloc, tag, rows, opened, settled)? {
+            return Ok(Some(tag));
+        }
+    }
+    Ok(strange_tag(rows))
+}
+
+/// Whether the rows of a tag are those of the world that the rows open to.
+fn is_right(
+    alloc: Global,
+    tag: u8,
+    rows: &Rows,
+    opened: &OpenedRows,
+    settled: SettledTags,
+) -> Result<bool, AllocError>
+    requires sessions { opened.now.sessions.items ≡ opened_sessions rows.now }
+    requires boots { opened.now.boots.count ≡ (opened_boots rows.now).0 }
+    requires settled { AreSettled rows.now settled }
+    ensures { IfOk result (Tells rows.now tag) }
+{
+    let sessions = opened.sessions.as_slice();
+    match tag {
+        3 => Ok(settled.active),
+        4 => Ok(settled.backup),
+        5 => Ok(settled.files),
+        7 | 8 => is_right_kept(alloc, tag, rows, sessions, opened.boots.count),
+        _ => is_right_alone(alloc, tag, rows),
+    }
+}
+
+/// The least tag of a row that is above the tags of keys.
+fn strange_tag(rows: &Rows) -> Option<u8>
+    ensures { result ≡ strange_tag (fin.entries rows.now) }
+{
+    let mut least = None;
+    for (key, _) in rows.by_key() {
+        least = lesser(least, strange_in(key.as_slice()));
+    }
+    least
+}
+
+/// What a row's key begins with, if that is above the tags of keys.
+fn strange_in(key: &[u8]) -> Option<u8>
+    ensures { result ≡ strange_in key.now }
+{
+    match key {
+        [tag, ..] if *tag >= TAGS => Some(*tag),
+        _ => None,
+    }
+}
+
+/// The lesser of two tags, where both are there.
+fn lesser(one: Option<u8>, other: Option<u8>) -> Option<u8>
+    ensures { result ≡ lesser one other }
+{
+    match one {
+        None => other,
+        Some(a) => match other {
+            Some(b) if b < a => other,
+            _ => one,
+        },
+    }
+}
