@@ -39,6 +39,6 @@ returns-clause-stands c w s =
 pub returns-then-changes_nothing-clause-stands : goal.returns-then-changes_nothing-clause-stands
 returns-then-changes_nothing-clause-stands c w s =
     let judged = c.in_ok-judged.judged in
-    let (none, nothing) = c.if-changes_nothing.ensures in
+    let (none, nothing) = c.if-changes_nothing.ensures refl in
     stands_quiet c.args.rows.now c.args.tables.now w (call_at c.args.call.now) judged s
     (c.in_ok-judged.ensures.judged w s) none nothing
