@@ -15,6 +15,7 @@ mod padded;
 mod path;
 mod records;
 mod refusal;
+mod sessions;
 mod shared;
 mod targets;
 #[cfg(test)]
@@ -38,6 +39,7 @@ pub use records::{
     RollbackState, State, Target,
 };
 pub use refusal::Refusal;
+pub use sessions::{place_of, session_of};
 pub use shared::Shared;
 pub use targets::{before, held, is_target, kept};
 pub use text::{Name, Print};

@@ -1,6 +1,8 @@
 //! Modules, sessions and their parts, and what becomes of them. Plain data: the crates above decide which values go
 //! together.
-ghost use Rattle.std.specs.Prelude.{◌≡◌};
+ghost use Rattle.std.specs.Prelude.{◌≡◌, find};
+ghost use Rattle.std.specs.Option.{option_copied};
+ghost use Rattle.std.specs.Str.{bytes_eq};
 ghost use Rattle.apex_base.specs.Held.{is_unfinished, is_standing, is_undoable, is_success, is_available};
 ghost use Rattle.apex_base.specs.Rollbacks.{given_up};
 ghost use Rattle.apex_base.specs.Moves.{state_number};
@@ -170,6 +172,28 @@ pub type Bytes = Listed<u8>;
 pub struct Pick {
     pub name: Name,
     pub chosen: Option<(Version, Place)>,
+}
+
+impl Listed<Pick> {
+    ghost use Rattle.std.specs.Prelude.{◌≡◌, find, option_and_then};
+    ghost use Rattle.std.specs.Str.{bytes_eq};
+
+    /// The version and the place that were chosen for a name; None if the name is missing, or is no name of the image. It
+    /// takes no memory.
+    pub fn find(&self, name: &Name) -> Option<(Version, Place)>
+        ensures { result ≡ option_and_then (λ p. p.chosen) (find (λ p. bytes_eq p.name name.now) self.now) }
+    {
+        match pick_of(self.as_slice(), name) {
+            Some(p) => p.chosen,
+            None => None,
+        }
+    }
+}
+
+fn pick_of<'a>(picks: &'a [Pick], name: &Name) -> Option<&'a Pick>
+    ensures { option_copied result ≡ find (λ p. bytes_eq p.name name.now) picks.now }
+{
+    picks.iter().find(|p| p.name.is_same(name))
 }
 
 /// A session. `activation` is the boot that activated it, 0 for none; `moment` is when its rollback became

@@ -13,7 +13,7 @@ use Rattle.apex_base.specs.Sessions.{session_of}
 use Rattle.apex_base.specs.Spelling.{record_text}
 use Rattle.apex_base.specs.Windows.{last_five}
 use Rattle.apex_base.proofs.MemberLemmas.{each_in, in_append, in_flat_map, in_flat_map_back}
-use Rattle.apex_base.proofs.SessionLemmas.{of_in, of_found}
+use Rattle.apex_base.proofs.SessionLemmas.{of_in, of_found, of_map}
 use Rattle.row_codec.specs.declared.batch.Row.{Row}
 use Rattle.row_map.specs.Rows.{changed}
 use Rattle.row_map.specs.Room.{same_key, in_batch}
@@ -29,7 +29,6 @@ use Rattle.apex_world.specs.Rows.{rows, row_at}
 use Rattle.apex_world.specs.Selection.{Mounts}
 use Rattle.apex_world.specs.World.{World, boots}
 use Rattle.apex_world.proofs.BootLoops.{boots_running}
-use Rattle.apex_world.proofs.Found.{of_map}
 use Rattle.apex_world.proofs.MapsOfRows.{rows_typed}
 use Rattle.apex_world.proofs.PlainLemmas.{boot_plain}
 use Rattle.apex_world.proofs.QuietBoots.{boots_by_rows}

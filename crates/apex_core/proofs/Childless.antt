@@ -7,7 +7,7 @@ use Rattle.apex_base.specs.declared.numbers.SessionId.{SessionId}
 use Rattle.apex_base.specs.declared.records.Record.{Record}
 use Rattle.apex_base.specs.Members.{In}
 use Rattle.apex_base.specs.Sessions.{has_id, session_of, Ascend}
-use Rattle.apex_world.proofs.Found.{of_lt, of_eq, of_gt}
+use Rattle.apex_base.proofs.SessionLemmas.{of_lt, of_eq, of_gt}
 
 or_none : (b : Bool) → (b || false) ≡ b
 or_none true = refl

@@ -19,7 +19,7 @@ use Rattle.apex_base.specs.Sessions.{session_of, with_session}
 use Rattle.apex_base.specs.Spelling.{record_text}
 use Rattle.apex_base.proofs.MemberLemmas.{in_map, in_map_back}
 use Rattle.apex_base.proofs.RowMaps.{in_entries, entry_get}
-use Rattle.apex_base.proofs.SessionLemmas.{of_found}
+use Rattle.apex_base.proofs.SessionLemmas.{of_found, of_with, of_other}
 use Rattle.apex_world.specs.declared.modules.Package.{Package}
 use Rattle.apex_world.specs.Lawful.{Lawful}
 use Rattle.apex_world.specs.Plain.{IsPlain}
@@ -29,7 +29,6 @@ use Rattle.apex_world.specs.Selection.{submitted_by}
 use Rattle.apex_world.specs.Submit.{id_taken, image_print, entered}
 use Rattle.apex_world.specs.World.{World}
 use Rattle.apex_world.proofs.EnteredSessions.{unused}
-use Rattle.apex_world.proofs.Found.{of_with, of_other}
 use Rattle.apex_world.proofs.SubmitRows.{none_before, submit_puts}
 use Rattle.apex_world.proofs.WorldRows.{same_id, submission_of, world_row}
 use Rattle.package_store.specs.Placed.{file_change}

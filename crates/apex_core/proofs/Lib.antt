@@ -19,7 +19,6 @@ pub mod Moved
 pub mod NewRows
 pub mod Parts
 pub mod Performed
-pub mod Places
 pub mod PlainRows
 pub mod RowRange
 pub mod Search

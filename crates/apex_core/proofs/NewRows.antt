@@ -15,11 +15,10 @@ use Rattle.apex_base.specs.Members.{In}
 use Rattle.apex_base.specs.Sessions.{with_session}
 use Rattle.apex_base.specs.Settled.{stands_for, active_of, is_undoable_for, backup_of}
 use Rattle.apex_base.specs.Spelling.{target_text}
-use Rattle.apex_base.proofs.SessionLemmas.{with_others}
+use Rattle.apex_base.proofs.SessionLemmas.{with_others, with_lt, with_gt}
 use Rattle.apex_world.specs.declared.modules.Package.{Package}
 use Rattle.apex_world.specs.Submit.{new_session}
 use Rattle.apex_world.proofs.AlikeAfter.{target_in, in_target}
-use Rattle.apex_world.proofs.Found.{with_lt, with_gt}
 use Rattle.apex_world.proofs.KeptLemmas.{Own, Holds, Backs, kept_back, keeps}
 use Rattle.apex_world.proofs.SessionBeside.{latest_with}
 

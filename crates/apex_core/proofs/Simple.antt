@@ -9,11 +9,10 @@ use Rattle.apex_base.specs.declared.records.State.{State}
 use Rattle.apex_base.specs.Members.{In}
 use Rattle.apex_base.specs.Moves.{moved, rollback_after}
 use Rattle.apex_base.specs.Sessions.{session_of, with_session}
-use Rattle.apex_base.proofs.SessionLemmas.{of_found, with_any}
+use Rattle.apex_base.proofs.SessionLemmas.{of_found, with_any, with_lt, with_eq, of_lt, of_eq, of_gt}
 use Rattle.apex_world.specs.Advance.{move_to, move_found, move_session}
 use Rattle.apex_world.specs.Limits.{kind_units, units, units_of}
 use Rattle.apex_world.specs.World.{World}
-use Rattle.apex_world.proofs.Found.{with_lt, with_eq, of_lt, of_eq, of_gt}
 use Rattle.apex_world.proofs.PlainLemmas.{move_plain}
 use Rattle.apex_core.specs.Core.{IsSimple}
 

@@ -18,7 +18,7 @@ use Rattle.apex_base.specs.Members.{In, EachPair}
 use Rattle.apex_base.specs.Sessions.{names, session_of}
 use Rattle.apex_base.proofs.Finding.{some_of}
 use Rattle.apex_base.proofs.MemberLemmas.{in_map_back}
-use Rattle.apex_base.proofs.SessionLemmas.{of_found}
+use Rattle.apex_base.proofs.SessionLemmas.{of_found, of_map}
 use Rattle.apex_world.specs.declared.calls.BootOrder.{BootOrder}
 use Rattle.apex_world.specs.Boot.{become}
 use Rattle.apex_world.specs.Follows.{IsKeptAs}
@@ -37,7 +37,6 @@ use Rattle.apex_world.proofs.BootRollbacks.{settles, settled_enabling, gives_up}
 use Rattle.apex_world.proofs.BootSessions.{become_keeps}
 use Rattle.apex_world.proofs.BootTurned.{turned_unfinished, turned_success, turned_activation, turned_has, turned_apart}
 use Rattle.apex_world.proofs.BootTurns.{Turns, Rests, Activates, Remains, Fails, Reverts, turns}
-use Rattle.apex_world.proofs.Found.{of_map}
 
 -- Sessions that are kept
 

@@ -26,7 +26,7 @@ use Rattle.apex_world.specs.World.{World}
 use Rattle.apex_world.proofs.BootLaws.{number, turn, after, cause_for, keeps, way, ids_after, activations_after}
 use Rattle.apex_world.proofs.BootRollbacks.{settles}
 use Rattle.apex_world.proofs.BootTurned.{turned_unfinished, turned_success, turned_standing}
-use Rattle.apex_world.proofs.Found.{of_map}
+use Rattle.apex_base.proofs.SessionLemmas.{of_map}
 use Rattle.apex_world.proofs.KeptLemmas.{AreOrdered, ordered, stands_activated}
 use Rattle.apex_world.proofs.KeptLess.{Goes, IsFresh, Carries, Comes, Nothing, Before, New, kept_less}
 

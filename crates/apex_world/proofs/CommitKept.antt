@@ -29,7 +29,7 @@ use Rattle.apex_world.proofs.CommitParts.{new_ids, commit_ids}
 use Rattle.apex_world.proofs.CommitPeers.{commit_activations}
 use Rattle.apex_world.proofs.CommitRollbacks.{was_available}
 use Rattle.apex_world.proofs.CommitUndone.{success_same}
-use Rattle.apex_world.proofs.Found.{with_lt, with_gt}
+use Rattle.apex_base.proofs.SessionLemmas.{with_lt, with_gt}
 use Rattle.apex_world.proofs.KeptLemmas.{AreOrdered, Backs, ordered, stands_as, stands_activated, keeps}
 use Rattle.apex_world.proofs.KeptLess.{Goes, IsFresh, Carries, Nothing, Before, New, kept_less}
 

@@ -14,9 +14,8 @@ use Rattle.apex_base.specs.Commit.{committed}
 use Rattle.apex_base.specs.Members.{In}
 use Rattle.apex_base.specs.Sessions.{session_of, shares}
 use Rattle.apex_base.proofs.MemberLemmas.{in_map, in_map_back}
-use Rattle.apex_base.proofs.SessionLemmas.{with_any, with_others, of_found}
+use Rattle.apex_base.proofs.SessionLemmas.{with_any, with_others, of_found, of_other, of_map}
 use Rattle.apex_world.specs.Follows.{IsKeptAs}
-use Rattle.apex_world.proofs.Found.{of_other, of_map}
 use Rattle.apex_world.proofs.LeadsLemmas.{same, new_id}
 use Rattle.apex_world.proofs.NewIds.{AreNew}
 

@@ -16,7 +16,7 @@ use Rattle.apex_base.specs.Members.{In}
 use Rattle.apex_base.specs.Rollbacks.{is_committed}
 use Rattle.apex_base.specs.Sessions.{session_of, with_session}
 use Rattle.apex_base.proofs.MemberLemmas.{in_map_back}
-use Rattle.apex_base.proofs.SessionLemmas.{of_in}
+use Rattle.apex_base.proofs.SessionLemmas.{of_in, with_lt, with_gt, of_with}
 use Rattle.apex_world.specs.Lawful.{Lawful, IsRollbackSession, HaveRollbackSessions, is_verified}
 use Rattle.apex_world.specs.World.{World}
 use Rattle.apex_world.proofs.SessionMaps.{latest_map}
@@ -25,7 +25,6 @@ use Rattle.apex_world.proofs.CommitOne.{commits_to, made_apart, same_number, fou
 use Rattle.apex_world.proofs.CommitParts.{new_ids}
 use Rattle.apex_world.proofs.CommitPeers.{waits_never}
 use Rattle.apex_world.proofs.CommitRollbacks.{still_committed, was_committed}
-use Rattle.apex_world.proofs.Found.{with_lt, with_gt, of_with}
 use Rattle.apex_world.proofs.OpenedSessions.{one_session}
 
 -- The latest of sessions that change

@@ -6,7 +6,7 @@ use Rattle.apex_base.specs.declared.records.Target.{Target}
 use Rattle.apex_base.specs.Held.{is_standing, candidate, later, target_of, held}
 use Rattle.apex_base.specs.Members.{In}
 use Rattle.apex_base.specs.Sessions.{session_of, with_session}
-use Rattle.apex_world.proofs.Found.{with_lt, with_eq, with_gt, of_lt, of_eq, of_gt}
+use Rattle.apex_base.proofs.SessionLemmas.{with_lt, with_eq, with_gt, of_lt, of_eq, of_gt}
 
 -- what a session has for a name, where it stands
 abbrev pub stands_for : List ℕ → Record → Option (ℕ × Target)

@@ -14,12 +14,11 @@ use Rattle.apex_base.specs.Held.{is_standing, candidate, held}
 use Rattle.apex_base.specs.Members.{In}
 use Rattle.apex_base.specs.Sessions.{session_of, shares}
 use Rattle.apex_base.proofs.MemberLemmas.{in_map_back}
-use Rattle.apex_base.proofs.SessionLemmas.{with_any, of_found}
+use Rattle.apex_base.proofs.SessionLemmas.{with_any, of_found, of_other, of_map}
 use Rattle.apex_world.specs.declared.calls.Observer.{Observer}
 use Rattle.apex_world.specs.declared.calls.ObserverKind.{ObserverKind}
 use Rattle.apex_world.specs.declared.calls.ObserverKind.TheVariants.{Fixed, Rollback}
 use Rattle.apex_world.specs.Trigger.{acted, acting_among, commits, commit_all, triggered}
-use Rattle.apex_world.proofs.Found.{of_other, of_map}
 use Rattle.apex_world.proofs.HeldLemmas.{stands_for, held_beside, held_map}
 
 -- the state of a session that no commit touches

@@ -65,7 +65,6 @@ pub mod EmptyLemmas
 pub mod EnteredAlike
 pub mod EnteredModules
 pub mod EnteredSessions
-pub mod Found
 pub mod FreedRows
 pub mod HeldLemmas
 pub mod HeldModules

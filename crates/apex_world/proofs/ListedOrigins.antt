@@ -20,7 +20,7 @@ use Rattle.apex_base.specs.Keys.{Key, SnapshotOf, PreRestoreOf}
 use Rattle.apex_base.specs.Members.{In}
 use Rattle.apex_base.specs.Rollbacks.{is_enabling}
 use Rattle.apex_base.specs.Sessions.{names, session_of}
-use Rattle.apex_base.proofs.SessionLemmas.{of_in}
+use Rattle.apex_base.proofs.SessionLemmas.{of_in, of_map}
 use Rattle.apex_world.specs.declared.calls.BootOrder.{BootOrder}
 use Rattle.apex_world.specs.Boot.{become}
 use Rattle.apex_world.specs.DataOrigins.{Origin, Snapshot, PreRestore, origin_by, named_origins, origins, origin_of}
@@ -33,7 +33,6 @@ use Rattle.apex_world.specs.World.{World}
 use Rattle.apex_world.proofs.BootFades.{turn_staged}
 use Rattle.apex_world.proofs.BootSessions.{become_keeps}
 use Rattle.apex_world.proofs.BootTurns.{turns}
-use Rattle.apex_world.proofs.Found.{of_map}
 
 abbrev Named : Type 0
 Named = List ℕ × Origin

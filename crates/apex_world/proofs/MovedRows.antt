@@ -20,12 +20,11 @@ use Rattle.apex_base.specs.Rollbacks.{is_committed}
 use Rattle.apex_base.specs.Sessions.{session_of, with_session}
 use Rattle.apex_base.specs.Spelling.{record_text}
 use Rattle.apex_base.proofs.MemberLemmas.{in_map, map_same}
-use Rattle.apex_base.proofs.SessionLemmas.{of_found}
+use Rattle.apex_base.proofs.SessionLemmas.{of_found, of_with, of_other}
 use Rattle.apex_world.specs.Lawful.{Lawful}
 use Rattle.apex_world.specs.Rows.{is_staged, may_happen, has_snapshot, record_row}
 use Rattle.apex_world.specs.World.{World}
 use Rattle.apex_world.proofs.AlikeAfter.{IsLike, like_self}
-use Rattle.apex_world.proofs.Found.{of_with, of_other}
 use Rattle.apex_world.proofs.KeptLemmas.{KeptAs, Own, Holds, Backs, keeps, undoable_stands, success_stands}
 use Rattle.apex_world.proofs.KeptLemmas.{stands_activated}
 use Rattle.apex_world.proofs.MovesAlike.{IsEarlyMove}

@@ -13,7 +13,7 @@ use Rattle.apex_base.specs.Sessions.{session_of, with_session}
 use Rattle.apex_base.specs.Text.{is_print}
 use Rattle.apex_base.proofs.Finding.{is_there, some_then}
 use Rattle.apex_base.proofs.MemberLemmas.{in_append}
-use Rattle.apex_base.proofs.SessionLemmas.{with_any, of_found}
+use Rattle.apex_base.proofs.SessionLemmas.{with_any, of_found, of_with}
 use Rattle.apex_world.specs.declared.calls.Image.{Image}
 use Rattle.apex_world.specs.declared.modules.Package.{Package}
 use Rattle.apex_world.specs.declared.world.Submission.{Submission}
@@ -22,7 +22,6 @@ use Rattle.apex_world.specs.Running.{Running}
 use Rattle.apex_world.specs.Submit.{parts_from, submissions_from, image_print, new_session, entered}
 use Rattle.apex_world.specs.World.{World}
 use Rattle.apex_world.proofs.AdmittedLemmas.{IsAdmitted}
-use Rattle.apex_world.proofs.Found.{of_with}
 use Rattle.apex_world.proofs.KeptLess.{IsFresh, Nothing, Before, New}
 use Rattle.apex_world.proofs.NewParts.{AreOthers, placed, submitted_at, modules_differ, pairs_append, still_submitted}
 use Rattle.apex_world.proofs.NewParts.{newly_submitted}

@@ -14,14 +14,13 @@ use Rattle.apex_base.specs.Modules.{FileMap}
 use Rattle.apex_base.specs.Rollbacks.{is_committed}
 use Rattle.apex_base.specs.Sessions.{session_of, with_session}
 use Rattle.apex_base.specs.Text.{is_print}
-use Rattle.apex_base.proofs.SessionLemmas.{ascend_with, with_any, with_others, of_found}
+use Rattle.apex_base.proofs.SessionLemmas.{ascend_with, with_any, with_others, of_found, of_other}
 use Rattle.apex_world.specs.declared.modules.Package.{Package}
 use Rattle.apex_world.specs.Lawful.{Lawful, HasActivation, HaveActivations, HaveRollbackSessions}
 use Rattle.apex_world.specs.Lawful.{AllPeers, AreActivatedApart}
 use Rattle.apex_world.specs.Submit.{new_session}
 use Rattle.apex_world.specs.World.{World, boots}
 use Rattle.apex_world.proofs.AdmittedLemmas.{IsAdmitted}
-use Rattle.apex_world.proofs.Found.{of_other}
 use Rattle.apex_world.proofs.KeptLemmas.{AreOrdered, ordered}
 use Rattle.apex_world.proofs.KeptLess.{IsFresh, Carries, Comes, kept_less}
 use Rattle.apex_world.proofs.MovesAlike.{goes_self}

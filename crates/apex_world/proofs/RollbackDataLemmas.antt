@@ -22,7 +22,7 @@ use Rattle.apex_base.specs.Moves.{state_number}
 use Rattle.apex_base.specs.Sessions.{names, session_of}
 use Rattle.apex_base.specs.Tables.{part_of}
 use Rattle.apex_base.proofs.MemberLemmas.{any_in, in_map_back}
-use Rattle.apex_base.proofs.SessionLemmas.{of_found, of_in}
+use Rattle.apex_base.proofs.SessionLemmas.{of_found, of_in, of_map}
 use Rattle.apex_world.specs.declared.calls.BootOrder.{BootOrder}
 use Rattle.apex_world.specs.declared.calls.Image.{Image}
 use Rattle.apex_world.specs.Boot.{become, started, boot_world}
@@ -36,7 +36,6 @@ use Rattle.apex_world.specs.World.{World, Contents, boots, era}
 use Rattle.apex_world.proofs.BootSessions.{Loops, boot_loops, become_keeps, part_works}
 use Rattle.apex_world.proofs.BootTurns.{Turns, turns, moved_unfinished, activated_works, reverted_keeps, success_states}
 use Rattle.apex_world.proofs.BootTurns.{undoable_activated, reverted_undoable}
-use Rattle.apex_world.proofs.Found.{of_map}
 use Rattle.apex_world.proofs.Lasting.{lasts}
 use Rattle.apex_world.proofs.Restored.{Restores, restored_all, restored_none, image_part}
 use Rattle.apex_world.proofs.RollbackIds.{lawful_undone, only_one}

@@ -10,7 +10,7 @@ use Rattle.apex_base.specs.Held.{candidate, later, target_of, latest}
 use Rattle.apex_base.specs.Members.{In}
 use Rattle.apex_base.specs.Sessions.{with_session}
 use Rattle.apex_world.specs.Bounds.{name_count}
-use Rattle.apex_world.proofs.Found.{with_lt, with_eq, with_gt}
+use Rattle.apex_base.proofs.SessionLemmas.{with_lt, with_eq, with_gt}
 
 -- of what one session adds
 pub sum_with : (g : Record → ℕ) (s : Record) (ss : List Record) → sum_by g (with_session s ss) ≤ g s + sum_by g ss

@@ -16,7 +16,7 @@ use Rattle.apex_base.specs.Commit.{target_version}
 use Rattle.apex_base.specs.Held.{candidate, later, target_of, latest}
 use Rattle.apex_base.specs.Members.{In}
 use Rattle.apex_base.specs.Sessions.{names, with_session, Ascend}
-use Rattle.apex_world.proofs.Found.{with_lt, with_eq}
+use Rattle.apex_base.proofs.SessionLemmas.{with_lt, with_eq}
 use Rattle.apex_world.proofs.LatestLemmas.{part_for, names_part}
 use Rattle.apex_world.proofs.OpenedSessions.{below_each}
 use Rattle.apex_world.proofs.WorldRows.{same_id}

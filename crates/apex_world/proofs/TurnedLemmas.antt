@@ -17,13 +17,12 @@ use Rattle.apex_base.specs.Held.{is_standing, kept}
 use Rattle.apex_base.specs.Members.{In, EachPair}
 use Rattle.apex_base.specs.Sessions.{has_id, names, session_of, Ascend}
 use Rattle.apex_base.proofs.MemberLemmas.{in_map, in_map_back}
-use Rattle.apex_base.proofs.SessionLemmas.{of_found, ascend_map}
+use Rattle.apex_base.proofs.SessionLemmas.{of_found, ascend_map, of_map}
 use Rattle.apex_world.specs.Lawful.{Lawful, HaveIds, HaveActivations, ids_of, AllPeers}
 use Rattle.apex_world.specs.Lawful.{AreActivatedApart, HasActivation}
 use Rattle.apex_world.specs.Lawful.{part_at_place}
 use Rattle.apex_world.specs.Rows.{undoes}
 use Rattle.apex_world.specs.World.{World, boots}
-use Rattle.apex_world.proofs.Found.{of_map}
 use Rattle.apex_world.proofs.KeptLemmas.{AreOrdered, ordered}
 use Rattle.apex_world.proofs.KeptLess.{Goes, IsFresh, Carries, Nothing, Before, New, kept_less}
 use Rattle.apex_world.proofs.LeadsLemmas.{same_ids}

@@ -21,7 +21,7 @@ use Rattle.apex_base.specs.Spelling.{target_text}
 use Rattle.apex_base.proofs.Finding.{found}
 use Rattle.apex_world.specs.Rows.{undoes, is_staged, is_staged_session, may_happen, has_snapshot, has_pre_restore}
 use Rattle.apex_world.proofs.AlikeAfter.{IsLike, names_same}
-use Rattle.apex_world.proofs.Found.{of_map}
+use Rattle.apex_base.proofs.SessionLemmas.{of_map}
 use Rattle.apex_world.proofs.SessionMaps.{candidate_none, candidate_same, latest_map}
 
 -- Tests of elements that each changed

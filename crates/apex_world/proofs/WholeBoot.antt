@@ -23,7 +23,7 @@ use Rattle.apex_base.specs.Held.{is_standing, is_success, is_undoable, is_unfini
 use Rattle.apex_base.specs.Members.{In, EachPair}
 use Rattle.apex_base.specs.Sessions.{names, session_of}
 use Rattle.apex_base.proofs.MemberLemmas.{in_map, in_map_back, in_any, each_in}
-use Rattle.apex_base.proofs.SessionLemmas.{of_in}
+use Rattle.apex_base.proofs.SessionLemmas.{of_in, of_map}
 use Rattle.apex_world.specs.declared.calls.BootOrder.{BootOrder}
 use Rattle.apex_world.specs.declared.modules.Package.{Package}
 use Rattle.apex_world.specs.Boot.{become, started}
@@ -36,7 +36,6 @@ use Rattle.apex_world.proofs.BootSessions.{become_keeps, part_works}
 use Rattle.apex_world.proofs.BootTurns.{Turns, Rests, Activates, Remains, Fails, Reverts, turns, activated_works}
 use Rattle.apex_world.proofs.BootTurns.{undoable_unfinished, success_states, undoable_turned}
 use Rattle.apex_world.proofs.ChosenLemmas.{chosen_in, chosen_back, chosen_from, choice_works, choice_data}
-use Rattle.apex_world.proofs.Found.{of_map}
 use Rattle.apex_base.proofs.Finding.{found}
 use Rattle.apex_world.proofs.LatestLemmas.{IsLatest, named_by, names_part, latest_is}
 use Rattle.apex_world.proofs.RollbackIds.{only_one}

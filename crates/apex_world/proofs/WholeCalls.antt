@@ -32,7 +32,7 @@ use Rattle.apex_base.specs.Sessions.{session_of, with_session, shares, has_id}
 use Rattle.apex_base.specs.Tables.{without_value}
 use Rattle.apex_base.specs.Windows.{is_failing}
 use Rattle.apex_base.proofs.MemberLemmas.{in_map_back, in_any}
-use Rattle.apex_base.proofs.SessionLemmas.{with_any, of_found}
+use Rattle.apex_base.proofs.SessionLemmas.{with_any, of_found, of_with, of_other, of_map}
 use Rattle.apex_world.specs.declared.calls.Call.{Call}
 use Rattle.apex_world.specs.declared.calls.Call.TheVariants as calls
 use Rattle.apex_world.specs.declared.calls.Image.{Image}
@@ -55,7 +55,6 @@ use Rattle.apex_world.specs.Watching.{no_observer, first_unknown, watched, is_wa
 use Rattle.apex_world.specs.Wholeness.{IsActiveFrom, IsOnData, IsWhole}
 use Rattle.apex_world.specs.World.{World}
 use Rattle.apex_world.proofs.KeptLemmas.{undoable_stands}
-use Rattle.apex_world.proofs.Found.{of_with, of_other, of_map}
 use Rattle.apex_world.proofs.HeldLemmas.{stands_for, held_beside, held_again, held_map}
 use Rattle.apex_world.proofs.Lasting.{lasts, Lasts, commit_lasts}
 use Rattle.apex_world.proofs.RollbackIds.{Undone, Carries, AreAvailable, undone_map, undone_with, undone_new}

@@ -6,7 +6,6 @@ mod KeptPlaces
 mod KeptSteps
 mod KeyOrder
 mod KeysRead
-mod Lookups
 mod MomentLists
 mod MomentSteps
 mod NameRows
@@ -21,7 +20,6 @@ mod RightKeptRows
 mod RightNames
 mod RightRecords
 mod SessionLists
-mod SessionPlaces
 mod SessionSteps
 mod SettledChanges
 mod SettledFiles

@@ -7,8 +7,7 @@ ghost use Rattle.row_opening.specs.KeptRows.{key_under, first_kept, kept_by, is_
 ghost use Rattle.row_opening.specs.RightKept.{place_in, value_by};
 
 use crate::keeping::has_name;
-use crate::lookup::session_of;
-use apex_base::{Name, Record, SessionId};
+use apex_base::{Name, Record, SessionId, session_of};
 use row_map::Rows;
 use session_record::{short_at, u32_at};
 use std::alloc::{AllocError, Global};

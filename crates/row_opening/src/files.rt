@@ -1,17 +1,14 @@
 //! Rows of files, by their keys alone: whether a session has the module as its own.
-ghost use Rattle.std.specs.Prelude.{◌≡◌, length};
+ghost use Rattle.std.specs.Prelude.{◌≡◌};
 ghost use Rattle.std.specs.FinMap as fin;
 ghost use Rattle.std.specs.List.{list_any};
-ghost use Rattle.std.specs.List.Sorted.{IsBinarySearchResult, IsSearchInRange};
-ghost use Rattle.std.specs.Option.{option_copied};
-ghost use Rattle.std.specs.Ordering.{nat_cmp};
 ghost use Rattle.apex_base.specs.Held.{is_module};
-ghost use Rattle.apex_base.specs.Sessions.{Ascend, session_of};
+ghost use Rattle.apex_base.specs.Sessions.{Ascend};
 ghost use Rattle.row_opening.specs.FileKeys.{is_file_key, is_file_at, are_files};
 ghost use Rattle.row_opening.specs.RightRows.{has_own};
 ghost use Rattle.row_opening.specs.RowBytes.{FitRow, FitRows};
 
-use apex_base::{FilePath, Part, Record, SessionId, Target};
+use apex_base::{FilePath, Part, Record, SessionId, Target, session_of};
 use row_map::Rows;
 
 /// The tag of the rows of files.
@@ -65,7 +62,7 @@ fn has_own(sessions: &[Record], id: SessionId, part: u32) -> bool
     requires { Ascend sessions.now }
     ensures { result ≡ has_own sessions.now id part }
 {
-    match session_of(sessions, id) {
+    match session_of(sessions, u64::from(id.0)) {
         Some(r) => is_own(r.parts.as_slice(), id, part),
         None => false,
     }
@@ -88,22 +85,4 @@ fn is_module(target: Target, session: SessionId, part: u32) -> bool
             version: _,
         } => s.0 == session.0 && p == part,
     }
-}
-
-/// The session of an id, in a list that ascends by id.
-fn session_of<'a>(sessions: &'a [Record], id: SessionId) -> Option<&'a Record>
-    requires { Ascend sessions.now }
-    ensures { option_copied result ≡ session_of sessions.now id }
-{
-    match search(sessions, id.0) {
-        Ok(place) => Some(&sessions[place]),
-        Err(_) => None,
-    }
-}
-
-fn search(sessions: &[Record], number: u32) -> Result<usize, usize>
-    ensures range { IsSearchInRange result (length sessions.now) }
-    ensures found { IsBinarySearchResult (λ r. nat_cmp r.id.0 number) sessions.now result }
-{
-    sessions.binary_search_by_key(&number, |r| r.id.0)
 }

@@ -5,8 +5,7 @@ ghost use Rattle.apex_base.specs.Sessions.{names, Ascend};
 ghost use Rattle.apex_world.specs.Rows.{has_snapshot, has_pre_restore, may_happen, undoes, is_staged};
 ghost use Rattle.row_opening.specs.KeptRows.{IsKeptTag, keeps};
 
-use crate::lookup::session_of;
-use apex_base::{Kind, Record, RollbackState, SessionId, State};
+use apex_base::{Kind, Record, RollbackState, SessionId, State, session_of};
 
 /// What the id of a rollback's session has more than that of the session that it takes back.
 const ROLLBACK: u64 = 1073741824;

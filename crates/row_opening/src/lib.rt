@@ -11,7 +11,6 @@ mod kept_laws;
 #[cfg(test)]
 mod kept_tests;
 mod laws;
-mod lookup;
 mod opened;
 mod rows;
 mod sessions;

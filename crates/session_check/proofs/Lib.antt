@@ -3,7 +3,6 @@ pub mod Earlier
 pub mod Equal
 pub mod Last
 pub mod Lawfulness
-pub mod Lookups
 pub mod Marked
 pub mod Orders
 pub mod Peers

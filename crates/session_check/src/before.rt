@@ -9,10 +9,9 @@ ghost use Rattle.session_check.specs.declared.marks.Which.TheVariants.{Succeeded
 ghost use Rattle.session_check.specs.Before.{AreDated, target_of_part, target_in, is_above};
 ghost use Rattle.session_check.specs.Marks.{mark_cmp, has_later, AreMarks};
 
-use crate::lookup::session_of;
 use crate::marks::Mark;
 use crate::search::{has_later, last_before};
-use apex_base::{Name, Part, Record, Target};
+use apex_base::{Name, Part, Record, Target, session_of};
 
 /// The target that a name held before a session was activated, by the marks of those that succeeded.
 pub(crate) fn before(sessions: &[Record], marks: &[Mark], x: &Record, name: &Name) -> Target

@@ -4,7 +4,6 @@
 mod before;
 mod check;
 mod distinct;
-mod lookup;
 mod marks;
 mod own;
 mod search;

@@ -16,10 +16,9 @@ ghost use Rattle.session_check.specs.Before.{AreDated};
 ghost use Rattle.session_check.specs.Marks.{AreMarks};
 
 use crate::before::before;
-use crate::lookup::session_of;
 use crate::marks::Mark;
 use crate::own::{is_committed, is_same_version, target_version};
-use apex_base::{Kind, Part, Record, SessionId, State, Target};
+use apex_base::{Kind, Part, Record, SessionId, State, Target, session_of};
 
 // When they were activated
 

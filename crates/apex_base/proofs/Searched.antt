@@ -12,8 +12,7 @@ use Rattle.std.specs.declared.cmp.Ordering.TheVariants.{Less, Equal, Greater}
 use Rattle.apex_base.specs.declared.numbers.SessionId.{SessionId}
 use Rattle.apex_base.specs.declared.records.Record.{Record}
 use Rattle.apex_base.specs.Sessions.{session_of, with_session, Ascend}
-use Rattle.apex_world.proofs.Found.{with_lt, with_eq, with_gt, of_lt, of_eq, of_gt}
-use Rattle.apex_world.proofs.WorldRows.{same_id}
+use Rattle.apex_base.proofs.SessionLemmas.{with_lt, with_eq, with_gt, of_lt, of_eq, of_gt}
 
 -- What comparing numbers says
 
@@ -153,5 +152,5 @@ module _ (xs : List Record) (id : SessionId) (ascend : Ascend xs) where
   read_id (y ∷ ys) (suc i) r e at = read_id ys i r e at
 
   pub id_found : (r : Result ℕ ℕ) → IsFound r → IfOk r (λ i. (s : Record) → slice_get xs i ≡ Some s → s.id ≡ id)
-  id_found (Ok i) is = λ s e. same_id s.id id (read_id xs i s e (λ d. equal_is _ _ (is d)))
+  id_found (Ok i) is = λ s e. ap (λ (n : ℕ). record { 0 = n }) (read_id xs i s e (λ d. equal_is _ _ (is d)))
   id_found (Err i) is = tt

@@ -1,7 +1,7 @@
 use Rattle.std.proofs.Common.{rules, refl}
 use Rattle.std.proofs.lemmas.Fn.{always_returns_same}
 use Rattle.apex_base.specs.declared.records.Record.{Record}
-use Rattle.apex_core.proofs.sessions.search.Goals as goal
+use Rattle.apex_base.proofs.sessions.search.Goals as goal
 
 pub returns-clause-found : goal.returns-clause-found
 returns-clause-found c =
