@@ -23,7 +23,8 @@ use Rattle.apex_world.specs.World.{World}
 use Rattle.apex_world.proofs.BootFades.{turn_staged}
 use Rattle.apex_world.proofs.BootLaws.{number, turn, after, keeps, way, cause_for, found_map}
 use Rattle.apex_world.proofs.BootModules.{kept_before}
-use Rattle.apex_world.proofs.BootRollbacks.{Settles, settles}
+use Rattle.apex_world.proofs.BootRollbacks.{settles}
+use Rattle.apex_world.proofs.RollbackStates.{Settles}
 use Rattle.apex_world.proofs.BootRuns.{started_running}
 use Rattle.apex_world.proofs.BootTurned.{turned_activation, turned_undoable}
 use Rattle.apex_world.proofs.CommitKeeps.{triggered_keeps}

@@ -103,6 +103,7 @@ pub mod OrderedAfter
 pub mod OutdatedRollbacks
 pub mod OwnTargets
 pub mod PartOwners
+pub mod PlacedSessions
 pub mod PlainLemmas
 pub mod QuietBoots
 pub mod ReadyRows
@@ -113,6 +114,7 @@ pub mod RevertAlike
 pub mod RevertRuns
 pub mod RollbackDataLemmas
 pub mod RollbackIds
+pub mod RollbackStates
 pub mod RowWeightLemmas
 pub mod RunningLemmas
 pub mod SessionBeside

@@ -24,7 +24,7 @@ use Rattle.apex_base.proofs.TableLemmas.{some_value}
 use Rattle.apex_world.specs.declared.calls.Image.{Image}
 use Rattle.apex_world.specs.declared.calls.Observer.{Observer}
 use Rattle.apex_world.specs.declared.world.Submission.{Submission}
-use Rattle.apex_world.specs.Bounds.{table_len}
+use Rattle.apex_world.specs.Bounds.{HasLittleData, table_len}
 use Rattle.apex_world.specs.Data.{data_weight}
 use Rattle.apex_world.specs.Lawful.{Lawful, IsTable, IsRunningImage, HaveModules, part_at_place}
 use Rattle.apex_world.specs.Running.{Running, runs, is_registered}
@@ -116,57 +116,60 @@ module _ (w : World) (run : Running w) where
         let most = mul-le-mul_right (scale_modules w.scale) all in
         omega (arith, each, most, sum-map (λ (e : List ℕ × NameMap ℕ). fin.len e.1) (fin.entries t))
 
-  -- other data of names that run
+  -- the world with other data and other watches at a later moment is lawful, if they are within their ranges and bounds
+  lawful_with : (c : Contents) (t : Watches) (clock : ℕ) → IsTable c → IsTable t
+      → ((observer name : List ℕ) (end : ℕ) → value_of t observer name ≡ Some end → end ≤ 18014398509481982)
+      → IsMillis clock → HasLittleData w.scale c → table_len t ≤ 8 * scale_modules w.scale
+      → Lawful (record w { contents = c; watches = t; clock = clock })
+  lawful_with c t clock within table ends millis little few = record {
+    ranges = record {
+      sessions = run.lawful.ranges.sessions;
+      modules = run.lawful.ranges.modules;
+      contents = within;
+      eras = run.lawful.ranges.eras;
+      moments = run.lawful.ranges.moments;
+      watches = table;
+      ends = ends;
+      boots = run.lawful.ranges.boots;
+      clock = millis;
+      image = run.lawful.ranges.image;
+      observers = run.lawful.ranges.observers;
+    };
+    ids = run.lawful.ids;
+    parts = run.lawful.parts;
+    alone = run.lawful.alone;
+    activations = run.lawful.activations;
+    causes = run.lawful.causes;
+    rollbacks = run.lawful.rollbacks;
+    undone = run.lawful.undone;
+    modules = modules_again w run.lawful (record w { contents = c; watches = t; clock = clock }) refl refl;
+    bounds = record {
+      units = run.lawful.bounds.units;
+      weight = run.lawful.bounds.weight;
+      contents = little;
+      eras = run.lawful.bounds.eras;
+      undoable = run.lawful.bounds.undoable;
+      available = run.lawful.bounds.available;
+      waiting = run.lawful.bounds.waiting;
+      watches = few;
+    };
+    begun = run.lawful.begun;
+  }
+
+  -- with other data of names that run it runs
   module _ (c : Contents) (table : IsTable c)
       (named : (name : List ℕ) → is_some (fin.get c name) ≡ true → runs w name ≡ true)
       (weight : (name : List ℕ) → data_weight c name ≤ scale_data_weight w.scale) where
-    abbrev with_data : World
-    with_data = record w { contents = c }
-
-    -- the world with it is lawful
-    data_lawful : Lawful with_data
-    data_lawful = record {
-      ranges = record {
-        sessions = run.lawful.ranges.sessions;
-        modules = run.lawful.ranges.modules;
-        contents = table;
-        eras = run.lawful.ranges.eras;
-        moments = run.lawful.ranges.moments;
-        watches = run.lawful.ranges.watches;
-        ends = run.lawful.ranges.ends;
-        boots = run.lawful.ranges.boots;
-        clock = run.lawful.ranges.clock;
-        image = run.lawful.ranges.image;
-        observers = run.lawful.ranges.observers;
-      };
-      ids = run.lawful.ids;
-      parts = run.lawful.parts;
-      alone = run.lawful.alone;
-      activations = run.lawful.activations;
-      causes = run.lawful.causes;
-      rollbacks = run.lawful.rollbacks;
-      undone = run.lawful.undone;
-      modules = modules_again w run.lawful with_data refl refl;
-      bounds = record {
-        units = run.lawful.bounds.units;
-        weight = run.lawful.bounds.weight;
-        contents = record {
-          names = few_run c (λ name m e. named name (ap (λ (o : Option (NameMap (List ℕ))). is_some o) e));
-          weight = weight;
-        };
-        eras = run.lawful.bounds.eras;
-        undoable = run.lawful.bounds.undoable;
-        available = run.lawful.bounds.available;
-        waiting = run.lawful.bounds.waiting;
-        watches = run.lawful.bounds.watches;
-      };
-      begun = run.lawful.begun;
+    little : HasLittleData w.scale c
+    little = record {
+      names = few_run c (λ name m e. named name (ap (λ (o : Option (NameMap (List ℕ))). is_some o) e));
+      weight = weight;
     }
 
-    -- and it runs
     pub with_contents : Running (record w { contents = c })
     with_contents = record {
-      lawful = data_lawful;
+      lawful = lawful_with c w.watches w.clock table run.lawful.ranges.watches run.lawful.ranges.ends
+          run.lawful.ranges.clock little run.lawful.bounds.watches;
       image = run.image;
       sessions = run.sessions;
       contents = named;
@@ -176,56 +179,16 @@ module _ (w : World) (run : Running w) where
       past = run.past;
     }
 
-  -- other watches of registered observers and of names that run, at a later moment
+  -- and with other watches of registered observers and of names that run, at a later moment
   module _ (t : Watches) (clock : ℕ) (table : IsTable t)
       (ends : (observer name : List ℕ) (end : ℕ) → value_of t observer name ≡ Some end → end ≤ 18014398509481982)
       (run_all : (observer name : List ℕ) (end : ℕ) → value_of t observer name ≡ Some end → runs w name ≡ true)
       (registered : (observer name : List ℕ) (end : ℕ) → value_of t observer name ≡ Some end
       → is_registered w observer ≡ true) (later : w.clock ≤ clock) (millis : IsMillis clock) where
-    abbrev watched_world : World
-    watched_world = record w { watches = t; clock = clock }
-
-    -- the world with them is lawful
-    watches_lawful : Lawful watched_world
-    watches_lawful = record {
-      ranges = record {
-        sessions = run.lawful.ranges.sessions;
-        modules = run.lawful.ranges.modules;
-        contents = run.lawful.ranges.contents;
-        eras = run.lawful.ranges.eras;
-        moments = run.lawful.ranges.moments;
-        watches = table;
-        ends = ends;
-        boots = run.lawful.ranges.boots;
-        clock = millis;
-        image = run.lawful.ranges.image;
-        observers = run.lawful.ranges.observers;
-      };
-      ids = run.lawful.ids;
-      parts = run.lawful.parts;
-      alone = run.lawful.alone;
-      activations = run.lawful.activations;
-      causes = run.lawful.causes;
-      rollbacks = run.lawful.rollbacks;
-      undone = run.lawful.undone;
-      modules = modules_again w run.lawful watched_world refl refl;
-      bounds = record {
-        units = run.lawful.bounds.units;
-        weight = run.lawful.bounds.weight;
-        contents = run.lawful.bounds.contents;
-        eras = run.lawful.bounds.eras;
-        undoable = run.lawful.bounds.undoable;
-        available = run.lawful.bounds.available;
-        waiting = run.lawful.bounds.waiting;
-        watches = few_watches t table run_all registered;
-      };
-      begun = run.lawful.begun;
-    }
-
-    -- and it runs
     pub with_watches : Running (record w { watches = t; clock = clock })
     with_watches = record {
-      lawful = watches_lawful;
+      lawful = lawful_with w.contents t clock run.lawful.ranges.contents table ends millis run.lawful.bounds.contents
+          (few_watches t table run_all registered);
       image = run.image;
       sessions = run.sessions;
       contents = run.contents;
