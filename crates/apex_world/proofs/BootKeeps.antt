@@ -28,9 +28,9 @@ use Rattle.apex_world.proofs.RollbackStates.{Settles}
 use Rattle.apex_world.proofs.BootRuns.{started_running}
 use Rattle.apex_world.proofs.BootTurned.{turned_activation, turned_undoable}
 use Rattle.apex_world.proofs.CommitKeeps.{triggered_keeps}
-use Rattle.apex_world.proofs.CommitWays.{available_may}
 use Rattle.apex_world.proofs.KeptRows.{Was, KeepsPast, KeepsRows, keeps_on}
 use Rattle.apex_world.proofs.StagedSome.{staged_some}
+use Rattle.apex_world.proofs.MayHappen.{available_may}
 
 may_enabling : (ss : List Record) (id : SessionId) (o : Option RollbackState) → is_enabling o ≡ true
     → may_happen ss id o ≡ true

@@ -25,10 +25,10 @@ use Rattle.apex_world.proofs.AlikeAfter.{NothingNew}
 use Rattle.apex_world.proofs.BootRollbacks.{settles}
 use Rattle.apex_world.proofs.BootSessions.{become_keeps}
 use Rattle.apex_world.proofs.BootTurns.{Turns, turns}
-use Rattle.apex_world.proofs.BootTurns.{undoable_unfinished}
 use Rattle.apex_world.proofs.KeptLemmas.{AreOrdered, stands_activated}
 use Rattle.apex_world.proofs.KeptLess.{Goes, Carries}
 use Rattle.apex_world.proofs.BootAges.{IsYoung, IsOld, aged, turn_unfinished, turn_stays, turn_came}
+use Rattle.apex_world.proofs.StateFacts.{undoable_unfinished}
 
 module _ (w : World) (law : Lawful w) (order : BootOrder) (mounts : Mounts) where
   abbrev number : ℕ

@@ -25,12 +25,12 @@ use Rattle.apex_world.specs.World.{World}
 use Rattle.apex_world.proofs.CommitKept.{kept_before}
 use Rattle.apex_world.proofs.CommitOne.{CommitsTo, Taken, GivesWay, Stays, leaves, members, was_so}
 use Rattle.apex_world.proofs.CommitRuns.{eligible_available, committed_running}
-use Rattle.apex_world.proofs.CommitWays.{available_may, may_as_before, may_if_not_enabled}
 use Rattle.apex_world.proofs.OpenedSessions.{one_session}
 use Rattle.apex_world.proofs.StagedSome.{staged_some}
 use Rattle.apex_world.proofs.TriggerRuns.{AreEligible, rest_eligible, filter_eligible}
 use Rattle.apex_world.proofs.WorldRows.{same_id}
 use Rattle.apex_world.proofs.KeptRows.{KeepsPast, KeepsRows, keeps_all, keeps_on}
+use Rattle.apex_world.proofs.MayHappen.{available_may, may_as_before, may_if_not_enabled}
 
 -- a rollback that is available isn't committed
 never_both : (o : Option RollbackState) → is_available o ≡ true → is_committed o ≡ true → ⊥

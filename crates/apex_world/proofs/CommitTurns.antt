@@ -26,9 +26,10 @@ use Rattle.apex_world.proofs.OpenedSessions.{one_session}
 use Rattle.apex_world.proofs.OrderedAfter.{ordered_map, ordered_new}
 use Rattle.apex_world.proofs.WorldRows.{same_id}
 use Rattle.apex_world.proofs.CommitWays.{Ways, Marks, GivesWay, Leaves, ways, ways_like, ways_under, ways_goes}
-use Rattle.apex_world.proofs.CommitWays.{staged_back, available_may, may_as_before, may_if_not_enabled}
+use Rattle.apex_world.proofs.CommitWays.{staged_back}
 use Rattle.apex_world.proofs.NewIds.{not_both}
 use Rattle.apex_world.proofs.StagedSome.{staged_some}
+use Rattle.apex_world.proofs.MayHappen.{available_may, may_as_before, may_if_not_enabled}
 
 -- a session whose rollback can be committed
 pub record CanCommit (ss : List Record) (x : Record) : Type 0 where

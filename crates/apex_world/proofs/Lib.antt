@@ -81,6 +81,7 @@ pub mod LikenessLaws
 pub mod ListedOrigins
 pub mod MapsOfRows
 pub mod MomentsAlike
+pub mod MayHappen
 pub mod MoveStates
 pub mod MovedRows
 pub mod MovedSessions
@@ -123,6 +124,7 @@ pub mod SettledRows
 pub mod ShortForms
 pub mod SoundRanges
 pub mod StagedSome
+pub mod StateFacts
 pub mod StoredAlikeLemmas
 pub mod SubmitAlike
 pub mod SubmitRows

@@ -1,5 +1,5 @@
--- What runs, and running worlds with other data or other watches. Callers want `image_of`, `runs_in`, `with_contents`
--- and `with_watches`.
+-- What runs, and running worlds with other data or other watches. Callers want `image_of`, `runs_in`,
+-- `ranges_with`, `with_contents` and `with_watches`.
 use Rattle.std.proofs.Common.{◌≡◌, ◌≢◌, ℕ, ◌*◌, ◌≤◌, true, List, length, map, Option, Some, sym, ap, subst, ◌∙◌, refl}
 use Rattle.std.proofs.Common.{arith}
 use Rattle.std.proofs.Common.{mul-le-mul_right, le_trans, is_some}
@@ -14,8 +14,10 @@ use Rattle.apex_base.specs.declared.records.Record.{Record}
 use Rattle.apex_base.specs.declared.records.Target.TheVariants as targets
 use Rattle.apex_base.specs.Held.{kept}
 use Rattle.apex_base.specs.Members.{In, EachPair}
+use Rattle.apex_base.specs.Modules.{IsModule}
 use Rattle.apex_base.specs.Numbers.{scale_modules, scale_data_weight}
 use Rattle.apex_base.specs.Ranges.{IsMillis}
+use Rattle.apex_base.specs.Spelling.{IsRecord}
 use Rattle.apex_base.specs.Tables.{NameMap, or_empty, value_of}
 use Rattle.apex_base.proofs.Finding.{is_there}
 use Rattle.apex_base.proofs.MemberLemmas.{in_map, any_in, in_each}
@@ -26,7 +28,7 @@ use Rattle.apex_world.specs.declared.calls.Observer.{Observer}
 use Rattle.apex_world.specs.declared.world.Submission.{Submission}
 use Rattle.apex_world.specs.Bounds.{HasLittleData, table_len}
 use Rattle.apex_world.specs.Data.{data_weight}
-use Rattle.apex_world.specs.Lawful.{Lawful, IsTable, IsRunningImage, HaveModules, part_at_place}
+use Rattle.apex_world.specs.Lawful.{AreInRange, Lawful, IsTable, IsRunningImage, HaveModules, part_at_place}
 use Rattle.apex_world.specs.Running.{Running, runs, is_registered}
 use Rattle.apex_world.specs.Selection.{submitted_by}
 use Rattle.apex_world.specs.Submit.{in_running}
@@ -65,6 +67,24 @@ modules_again w law v sessions modules = record {
       → s.part ≢ t.part) ms) (sym modules) law.modules.distinct;
   owned = λ s h. ap (λ (ss : List Record). is_some (part_at_place ss s.session s.part)) sessions
       ∙ law.modules.owned s (subst (λ (ms : List Submission). In s ms) modules h);
+}
+
+-- a world with other sessions, other modules and another clock is within its ranges, if these are
+pub ranges_with : (w : World) → AreInRange w → (ss : List Record) (ms : List Submission) (clock : ℕ)
+    → ((r : Record) → In r ss → IsRecord r) → ((s : Submission) → In s ms → IsModule s.content) → IsMillis clock
+    → AreInRange (record w { sessions = ss; modules = ms; clock = clock })
+ranges_with w ranges ss ms clock records files millis = record {
+  sessions = records;
+  modules = files;
+  contents = ranges.contents;
+  eras = ranges.eras;
+  moments = ranges.moments;
+  watches = ranges.watches;
+  ends = ranges.ends;
+  boots = ranges.boots;
+  clock = millis;
+  image = ranges.image;
+  observers = ranges.observers;
 }
 
 module _ (w : World) (run : Running w) where

@@ -31,6 +31,7 @@ use Rattle.apex_world.proofs.OutdatedRollbacks.{is_succeeding, longer_some, long
 use Rattle.apex_world.proofs.OutdatedRollbacks.{longer_committed, enabling_some, outdated_id, outdated_available}
 use Rattle.apex_world.proofs.OutdatedRollbacks.{succeeding_id, sharing}
 use Rattle.apex_world.proofs.LeadsLemmas.{changed}
+use Rattle.apex_world.proofs.StateFacts.{success_from}
 
 module _ (w : World) (run : Running w) (clock : ℕ) (later : w.clock ≤ clock) (millis : IsMillis clock) (x : Record)
     (h : In x w.sessions) (active : x.state ≡ state.Activated) where
@@ -148,17 +149,6 @@ module _ (w : World) (run : Running w) (clock : ℕ) (later : w.clock ≤ clock)
       (turned_running w run g ids turns apart clock later millis)
 
 -- The call
-
--- only an activated session succeeds anew
-success_from : (s t : State) → moved s step_of.Success ≡ Some t → is_success s ≡ false → s ≡ state.Activated
-success_from state.Verified t e f = absurd (cc)
-success_from state.Staged t e f = absurd (cc)
-success_from state.Activated t e f = refl
-success_from state.ActivationFailed t e f = absurd (cc)
-success_from state.Success t e f = absurd (cc)
-success_from state.RevertInProgress t e f = absurd (cc)
-success_from state.Reverted t e f = absurd (cc)
-success_from state.Aborted t e f = absurd (cc)
 
 -- a running world at a later moment
 pub later_running : (w : World) → Running w → (clock : ℕ) → w.clock ≤ clock → IsMillis clock
