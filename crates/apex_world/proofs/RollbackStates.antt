@@ -1,6 +1,6 @@
 -- What becomes of the state of a rollback that is given up, kept no longer or not enabled: it stays, or is deleted.
--- Callers want `Settles`, its lemmas, `not_enabled_not`, `given_up_not` and `available_longer`.
-use Rattle.std.proofs.Common.{◌≡◌, Bool, true, false, cond, Option, Some, None, sym, ap, ◌∙◌, refl, is_some}
+-- Callers want `Fades`, `Settles`, its lemmas, `not_enabled_not`, `given_up_not` and `available_longer`.
+use Rattle.std.proofs.Common.{◌≡◌, ◌⊎◌, Bool, true, false, cond, Option, Some, None, sym, ap, ◌∙◌, refl, inl, inr, is_some}
 use Rattle.apex_base.specs.declared.records.RollbackState.{RollbackState}
 use Rattle.apex_base.specs.declared.records.RollbackState.TheVariants as rollbacks
 use Rattle.apex_base.specs.declared.records.State.{State}
@@ -9,8 +9,18 @@ use Rattle.apex_base.specs.Held.{is_available}
 use Rattle.apex_base.specs.Rollbacks.{is_enabling, is_committed, not_enabled, no_longer, given_up}
 use Rattle.apex_world.specs.Boot.{kept_in}
 
+-- a rollback stays, or is deleted
+abbrev pub Fades : Option RollbackState → Option RollbackState → Type 0
+Fades o p = (p ≡ o) ⊎ (p ≡ Some rollbacks.Deleted)
+
+fades_on : (o p q : Option RollbackState) → Fades o p → Fades p q → Fades o q
+fades_on o p q (inl e) (inl f) = inl (f ∙ e)
+fades_on o p q (inr e) (inl f) = inr (f ∙ e)
+fades_on o p q a (inr f) = inr f
+
 -- a rollback stays what it is, or is deleted before it was committed
 pub record Settles (o p : Option RollbackState) : Type 0 where
+  pub fades : Fades o p
   pub some : is_some p ≡ is_some o
   pub committed : is_committed p ≡ is_committed o
   pub available : is_available p ≡ true → is_available o ≡ true
@@ -18,6 +28,7 @@ pub record Settles (o p : Option RollbackState) : Type 0 where
 
 pub settles_same : (o p : Option RollbackState) → p ≡ o → Settles o p
 settles_same o p e = record {
+  fades = inl e;
   some = ap is_some e;
   committed = ap is_committed e;
   available = λ f. ap is_available (sym e) ∙ f;
@@ -26,6 +37,7 @@ settles_same o p e = record {
 
 pub settles_on : (o p q : Option RollbackState) → Settles o p → Settles p q → Settles o q
 settles_on o p q a b = record {
+  fades = fades_on o p q a.fades b.fades;
   some = b.some ∙ a.some;
   committed = b.committed ∙ a.committed;
   available = λ e. a.available (b.available e);
@@ -35,9 +47,9 @@ settles_on o p q a b = record {
 pub settles_given_up : (o : Option RollbackState) → Settles o (given_up o)
 settles_given_up None = settles_same None None refl
 settles_given_up (Some rollbacks.Enabling) =
-    record { some = refl; committed = refl; available = λ e. absurd (cc); enabling = λ e. refl }
+    record { fades = inr refl; some = refl; committed = refl; available = λ e. absurd (cc); enabling = λ e. refl }
 settles_given_up (Some rollbacks.Available) =
-    record { some = refl; committed = refl; available = λ e. refl; enabling = λ e. absurd (cc) }
+    record { fades = inr refl; some = refl; committed = refl; available = λ e. refl; enabling = λ e. absurd (cc) }
 settles_given_up (Some rollbacks.Committed) = settles_same _ _ refl
 settles_given_up (Some rollbacks.Deleted) = settles_same _ _ refl
 
@@ -45,14 +57,14 @@ pub settles_no_longer : (o : Option RollbackState) → Settles o (no_longer o)
 settles_no_longer None = settles_same None None refl
 settles_no_longer (Some rollbacks.Enabling) = settles_same _ _ refl
 settles_no_longer (Some rollbacks.Available) =
-    record { some = refl; committed = refl; available = λ e. refl; enabling = λ e. absurd (cc) }
+    record { fades = inr refl; some = refl; committed = refl; available = λ e. refl; enabling = λ e. absurd (cc) }
 settles_no_longer (Some rollbacks.Committed) = settles_same _ _ refl
 settles_no_longer (Some rollbacks.Deleted) = settles_same _ _ refl
 
 pub settles_not_enabled : (o : Option RollbackState) → Settles o (not_enabled o)
 settles_not_enabled None = settles_same None None refl
 settles_not_enabled (Some rollbacks.Enabling) =
-    record { some = refl; committed = refl; available = λ e. absurd (cc); enabling = λ e. refl }
+    record { fades = inr refl; some = refl; committed = refl; available = λ e. absurd (cc); enabling = λ e. refl }
 settles_not_enabled (Some rollbacks.Available) = settles_same _ _ refl
 settles_not_enabled (Some rollbacks.Committed) = settles_same _ _ refl
 settles_not_enabled (Some rollbacks.Deleted) = settles_same _ _ refl

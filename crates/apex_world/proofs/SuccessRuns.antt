@@ -27,11 +27,12 @@ use Rattle.apex_world.proofs.RunningLemmas.{with_watches}
 use Rattle.apex_world.proofs.TurnedLemmas.{peers_from}
 use Rattle.apex_world.proofs.TurnedRuns.{turned_running}
 use Rattle.apex_world.proofs.TurnedSessions.{Turns}
-use Rattle.apex_world.proofs.OutdatedRollbacks.{is_succeeding, longer_some, longer_enabling, longer_available}
-use Rattle.apex_world.proofs.OutdatedRollbacks.{longer_committed, enabling_some, outdated_id, outdated_available}
+use Rattle.apex_world.proofs.OutdatedRollbacks.{is_succeeding, longer_enabling, longer_available}
+use Rattle.apex_world.proofs.OutdatedRollbacks.{enabling_some, outdated_id, outdated_available}
 use Rattle.apex_world.proofs.OutdatedRollbacks.{succeeding_id, sharing}
 use Rattle.apex_world.proofs.LeadsLemmas.{changed}
 use Rattle.apex_world.proofs.StateFacts.{success_from}
+use Rattle.apex_world.proofs.RollbackStates.{settles_no_longer}
 
 module _ (w : World) (run : Running w) (clock : ℕ) (later : w.clock ≤ clock) (millis : IsMillis clock) (x : Record)
     (h : In x w.sessions) (active : x.state ≡ state.Activated) where
@@ -46,10 +47,10 @@ module _ (w : World) (run : Running w) (clock : ℕ) (later : w.clock ≤ clock)
       let none : is_available s.rollback ≡ true → ⊥ = λ e. false≢true (sym (longer_available r.rollback) ∙ e) in
       turn_from w run.lawful r s i (changed r) refl refl
       (run.lawful.ranges.sessions r i).moment (no_move r.state)
-      (rollback_as r s (run.lawful.rollbacks.each r i) refl refl (longer_some r.rollback)
-      (λ e. (sym (longer_enabling r.rollback) ∙ e, λ u. u)) (λ e. absurd (none e)) (longer_committed r.rollback)
+      (rollback_as r s (run.lawful.rollbacks.each r i) refl refl (settles_no_longer r.rollback).some
+      (λ e. (sym (longer_enabling r.rollback) ∙ e, λ u. u)) (λ e. absurd (none e)) (settles_no_longer r.rollback).committed
       (λ e. e))
-      (longer_committed r.rollback) (λ e. absurd (none e))
+      (settles_no_longer r.rollback).committed (λ e. absurd (none e))
 
   -- the session that succeeds is activated
   is_now : is_activated x.state ≡ true
