@@ -1,26 +1,21 @@
 -- The session of an id, among those that rows open to, is what its row spells. Callers want `session_in`,
 -- `sessions_ascend`, `is_record_in` and `session_id`.
 use Rattle.std.proofs.Common.{◌≡◌, ℕ, ◌<◌, ◌^◌, ltb, List, [], ◌∷◌, Option, Some, None, sym, ap, subst, ◌∙◌, refl}
-use Rattle.std.proofs.Common.{inl}
-use Rattle.std.proofs.Common.{inr, drop}
-use Rattle.std.specs.Prelude.{fold, option_and_then, IfSome}
-use Rattle.std.specs.Int.{w32, from_be_bytes}
+use Rattle.std.specs.Prelude.{option_and_then, IfSome}
+use Rattle.std.specs.Int.{w32}
 use Rattle.std.specs.FinMap as fin
-use Rattle.std.proofs.lemmas.Bool.{ltb-true, cases_eq}
-use Rattle.std.proofs.lemmas.Nat.{from_be_bytes-to_be_bytes_4}
+use Rattle.std.proofs.lemmas.Bool.{ltb-true}
 use Rattle.apex_base.specs.declared.numbers.SessionId.{SessionId}
 use Rattle.apex_base.specs.declared.records.Record.{Record}
 use Rattle.apex_base.specs.Keys.{RecordOf, key_text, RowMap}
 use Rattle.apex_base.specs.Members.{In}
 use Rattle.apex_base.specs.Reading.{◌>>=◌, at_end, byte_at, number_at}
-use Rattle.apex_base.specs.Sessions.{session_of, with_session, Ascend}
+use Rattle.apex_base.specs.Sessions.{session_of, Ascend}
 use Rattle.apex_base.specs.Spelling.{record_of, state_at, kind_at, rollback_at, moment_at, print_at, cause_at}
 use Rattle.apex_base.specs.Spelling.{parts_at, children_of}
 use Rattle.apex_base.proofs.Finding.{some_if, some_then}
-use Rattle.apex_base.proofs.MemberLemmas.{in_map}
-use Rattle.apex_base.proofs.RowMaps.{in_ends}
-use Rattle.apex_base.proofs.SessionLemmas.{ascend_with, with_self, with_others, with_any, of_found, of_in}
-use Rattle.apex_world.specs.Opened.{record_in, with_some, ids_in, opened_sessions}
+use Rattle.apex_base.proofs.SessionLemmas.{of_found, of_in}
+use Rattle.apex_world.specs.Opened.{record_in, opened_sessions}
 use Rattle.apex_world.proofs.WorldRows.{same_id}
 use Rattle.apex_world.proofs.PlacedSessions.{in_ids, opened_ascend, opened_known, opened_there}
 
