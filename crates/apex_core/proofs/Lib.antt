@@ -17,7 +17,6 @@ pub mod Judgements
 pub mod KeyModules
 pub mod Moved
 pub mod NewRows
-pub mod Parts
 pub mod Performed
 pub mod PlainRows
 pub mod RowRange
