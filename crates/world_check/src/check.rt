@@ -1,0 +1,37 @@
+//! Whether the world that rows open to is lawful, from the tests of the other modules.
+ghost use Rattle.std.specs.Prelude.{◌≡◌, Decides, IfOk};
+ghost use Rattle.apex_world.specs.Lawful.{Lawful};
+ghost use Rattle.apex_world.specs.Opened.{opened, opened_boots, opened_sessions};
+ghost use Rattle.row_opening.specs.BadRows.{opened_rows};
+
+use crate::counts::are_lawful_counts;
+use crate::data::is_lawful_data;
+use crate::modules::are_lawful_modules;
+use crate::watches::are_lawful_watches;
+use apex_base::Scale;
+use row_map::Rows;
+use row_opening::OpenedRows;
+use session_check::are_lawful;
+use std::alloc::{AllocError, Global};
+
+/// Whether the world is lawful that these rows open to. They are the rows of that world, and `opened` is what they open
+/// to. It takes n log n steps for n rows, and hashes each module that is kept once. Fails only if memory runs out.
+pub fn is_lawful(
+    alloc: Global,
+    rows: &Rows,
+    opened: &OpenedRows,
+    scale: Scale,
+) -> Result<bool, AllocError>
+    requires right { opened_rows rows.now scale ≡ rows.now }
+    requires sessions { opened.now.sessions.items ≡ opened_sessions rows.now }
+    requires boots { (opened.now.boots.count, opened.now.boots.moments.items) ≡ opened_boots rows.now }
+    ensures { IfOk result (λ lawful. Decides lawful (Lawful (opened rows.now scale))) }
+{
+    let sessions = opened.sessions.as_slice();
+    let boots = &opened.boots;
+    Ok(are_lawful(alloc, sessions, boots.count)?
+        && are_lawful_counts(sessions, boots, scale)
+        && are_lawful_watches(rows, scale)
+        && is_lawful_data(alloc, rows, sessions, scale)?
+        && are_lawful_modules(alloc, rows, sessions, scale)?)
+}
