@@ -29,9 +29,17 @@ pub fn is_lawful(
 {
     let sessions = opened.sessions.as_slice();
     let boots = &opened.boots;
-    Ok(are_lawful(alloc, sessions, boots.count)?
-        && are_lawful_counts(sessions, boots, scale)
-        && are_lawful_watches(rows, scale)
-        && is_lawful_data(alloc, rows, sessions, scale)?
-        && are_lawful_modules(alloc, rows, sessions, scale)?)
+    if !are_lawful(alloc, sessions, boots.count)? {
+        return Ok(false);
+    }
+    if !are_lawful_counts(sessions, boots, scale) {
+        return Ok(false);
+    }
+    if !are_lawful_watches(rows, scale) {
+        return Ok(false);
+    }
+    if !is_lawful_data(alloc, rows, sessions, scale)? {
+        return Ok(false);
+    }
+    are_lawful_modules(alloc, rows, sessions, scale)
 }
