@@ -1,9 +1,10 @@
--- What a record is spelled by is bytes. Callers want `record_fit` and `fit_bytes`.
+-- What a record is spelled by is bytes. Callers want `record_fit`, `boots_fit` and `fit_bytes`.
 use Rattle.std.proofs.Common.{◌≡◌, ℕ, zero, suc, ◌<◌, ◌≤◌, Bool, true, false, IsTrue, List, [], ◌∷◌, ◌++◌, length}
 use Rattle.std.proofs.Common.{get_or, Option, Some, None, refl, inl, inr, ◌⊎◌, arith, leb}
-use Rattle.std.specs.Int.{w32, w64, to_be_bytes, bytes_high_first}
+use Rattle.std.specs.Int.{w32, w64, to_be_bytes, bytes_high_first, byte_at}
 use Rattle.std.specs.List.{AllByRecursion, list_all}
-use Rattle.std.proofs.lemmas.Bool.{and_parts, or_cases, leb-true, eqb-true}
+use Rattle.std.proofs.lemmas.Bool.{and_parts, leb-true}
+use Rattle.std.proofs.lemmas.Bool.Decides.{nat_tests}
 use Rattle.apex_base.specs.declared.numbers.SessionId.{SessionId}
 use Rattle.apex_base.specs.declared.records.Case.{Case}
 use Rattle.apex_base.specs.declared.records.Case.TheVariants.{NotInImage, BelowPreinstalled, KeyDiffers, Unsound, NoMount}
@@ -24,6 +25,7 @@ use Rattle.apex_base.specs.Reading.{four_text, eight_text, short_text}
 use Rattle.apex_base.specs.Spelling.{kind_text, rollback_number, case_number, cause_text, target_text, part_text}
 use Rattle.apex_base.specs.Spelling.{version_number, parts_text, record_text}
 use Rattle.apex_base.specs.Text.{is_name_byte, is_print_byte, is_short_text, is_name, is_print}
+use Rattle.apex_world.specs.Rows.{moments_text, boots_text}
 use Rattle.session_record.specs.Room.{HasPartNumber, HasRoom}
 
 abbrev pub Fit : List ℕ → Type 0
@@ -41,15 +43,27 @@ fit_append (x ∷ xs) ys fit more = (fit.0, fit_append xs ys fit.1 more)
 
 -- Numbers
 
+one_byte : (i n : ℕ) → byte_at i n < 256
+one_byte zero n = omega arith
+one_byte (suc i) n = omega arith
+
 number_fit : (k n : ℕ) → Fit (bytes_high_first k n)
 number_fit zero n = tt
-number_fit (suc k) n = (omega arith, number_fit k n)
+number_fit (suc k) n = (one_byte k n, number_fit k n)
 
 four_fit : (n : ℕ) (rest : List ℕ) → Fit rest → Fit (four_text n rest)
 four_fit n rest fit = fit_append (to_be_bytes w32 n) rest (number_fit 4 n) fit
 
 eight_fit : (n : ℕ) (rest : List ℕ) → Fit rest → Fit (eight_text n rest)
 eight_fit n rest fit = fit_append (to_be_bytes w64 n) rest (number_fit 8 n) fit
+
+-- so many boots, and their moments
+moments_fit : (ms : List ℕ) → Fit (moments_text ms)
+moments_fit [] = tt
+moments_fit (m ∷ ms) = fit_append (eight_text m []) (moments_text ms) (eight_fit m [] tt) (moments_fit ms)
+
+pub boots_fit : (n : ℕ) (ms : List ℕ) → length ms < 256 → Fit (boots_text n ms)
+boots_fit n ms few = four_fit n (length ms ∷ moments_text ms) (few, moments_fit ms)
 
 -- Names and fingerprints
 
@@ -163,7 +177,11 @@ pub record_fit : (r : Record) → HasRoom r → HasTexts r → Fit (record_text 
 unfolding record_text
 record_fit r room has =
     let parts = parts_fit r.children r.parts has.named room.numbers in
-    let counts = (room.few, (few_children r room, parts)) in
-    let texts = print_fit r.print _ has.printed (cause_fit r.cause _ has.caused counts) in
-    (state_fit r.state, kind_fit r.kind _ (rollback_fit r.rollback, eight_fit r.moment _
-    (four_fit r.activation _ texts)))
+    let counts = length r.parts ∷ length r.children ∷ parts_text r.children r.parts [] in
+    let cause = cause_text r.cause counts in
+    let print = short_text r.print cause in
+    let boot = four_text r.activation print in
+    let fit = print_fit r.print cause has.printed
+    (cause_fit r.cause counts has.caused (room.few, (few_children r room, parts))) in
+    (state_fit r.state, kind_fit r.kind (rollback_number r.rollback ∷ eight_text r.moment boot)
+    (rollback_fit r.rollback, eight_fit r.moment boot (four_fit r.activation print fit)))

@@ -3,5 +3,6 @@ mod FitTexts
 mod OpenedRanges
 mod OpenedTableRanges
 mod ReadTexts
+mod Refusing
 mod SmallParts
 mod WholeWorlds

@@ -56,10 +56,6 @@ module _ {X : Type 0} where
       some_if_there a None h = tt
       some_if_there a (Some m) h = h.some
 
-  no_parts : AreParts fin.empty
-  no_parts q = subst (λ (o : Option (NameMap X)). IfSome o (IsPartOf q))
-      (sym (get-empty {X = NameMap X} (slice_cmp nat_cmp) q)) tt
-
   module _ (t : Table X) (a : List ℕ) (m : NameMap X) (parts : AreParts t) (first : IsTrue (is_name a))
       (second : AreNamed m) where
     whole_part : eqb (fin.len m) 0 ≡ false → (q : List ℕ) → eq_by_cmp (slice_cmp nat_cmp) q a ≡ true → IsPartOf q m
@@ -92,7 +88,9 @@ module _ {X : Type 0} where
     -- a table that is put together from parts under names
     folded_table : (ns : List (List ℕ)) → ((n : List ℕ) → In n ns → IsTrue (is_name n) × AreNamed (f n))
         → IsTable (fold (λ t n. with_part t n (f n)) fin.empty ns)
-    folded_table ns each = table_of _ (fold_parts ns fin.empty each no_parts)
+    folded_table ns each = table_of (fold (λ t n. with_part t n (f n)) fin.empty ns)
+        (fold_parts ns fin.empty each (λ q. subst (λ (o : Option (NameMap X)). IfSome o (IsPartOf q))
+        (sym (get-empty {X = NameMap X} (slice_cmp nat_cmp) q)) tt))
 
   -- Maps that are tabulated
 

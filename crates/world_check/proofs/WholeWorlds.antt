@@ -1,5 +1,5 @@
 -- The world that rows open to is lawful if and only if it is so part by part: `lawful_whole` and the lemmas after it.
-use Rattle.std.proofs.Common.{◌≡◌, ℕ, ◌<◌, ◌^◌, sym, subst, arith}
+use Rattle.std.proofs.Common.{◌≡◌, ℕ, sym, subst, arith}
 use Rattle.std.proofs.lemmas.List.FromFn.{length-map-range_with_len}
 use Rattle.apex_base.specs.declared.numbers.Scale.{Scale}
 use Rattle.apex_base.specs.Keys.{RowMap}
@@ -9,7 +9,7 @@ use Rattle.apex_world.specs.World.{World, boots}
 use Rattle.row_opening.specs.BadRows.{opened_rows}
 use Rattle.session_check.specs.LawfulSessions.{AreLawfulSessions}
 use Rattle.world_check.specs.LawfulParts.{HasLawfulCounts, HasLawfulData, HasLawfulModules, HasLawfulWatches}
-use Rattle.world_check.proofs.OpenedRanges.{opened_moment, opened_record}
+use Rattle.world_check.proofs.OpenedRanges.{opened_low, opened_moment, opened_record}
 use Rattle.world_check.proofs.OpenedTableRanges.{contents_table, era_table, watches_table}
 
 -- a lawful world is lawful in each part
@@ -54,11 +54,11 @@ module _ (m : RowMap) (scale : Scale) where
       (sessions_in (opened m scale) law)
 
   -- and all parts make it lawful
-  pub lawful_whole : opened_rows m scale ≡ m → (opened_boots m).0 < 2 ^ 32
-      → AreLawfulSessions (opened_boots m).0 (opened_sessions m) → HasLawfulModules (opened m scale)
+  pub lawful_whole : opened_rows m scale ≡ m → AreLawfulSessions (opened_boots m).0 (opened_sessions m)
+      → HasLawfulModules (opened m scale)
       → HasLawfulData (opened m scale) → HasLawfulWatches (opened m scale) → HasLawfulCounts (opened m scale)
       → Lawful (opened m scale)
-  lawful_whole right low sessions modules stored watches counts =
+  lawful_whole right sessions modules stored watches counts =
       let are = opened_record m scale right sessions in
       record {
         ranges = record {
@@ -69,7 +69,7 @@ module _ (m : RowMap) (scale : Scale) where
           moments = opened_moment m;
           watches = watches_table m;
           ends = watches.ends;
-          boots = omega (arith, low, opened_count);
+          boots = let low = opened_low m scale right in omega (arith, low, opened_count);
           clock = omega arith;
           image = tt;
           observers = omega arith;

@@ -1,10 +1,9 @@
 //! How many units and names a world has, and that there is no moment before the first boot.
-ghost use Rattle.std.specs.Prelude.{◌≡◌, ◌≤◌, ◌&&◌, Decides, [], length};
-ghost use Rattle.std.specs.List.{sum_by};
+ghost use Rattle.std.specs.Prelude.{◌≡◌, Decides, [], length};
 ghost use Rattle.apex_world.specs.Bounds.{is_ready_rollback};
 ghost use Rattle.apex_world.specs.Limits.{kind_units};
 ghost use Rattle.apex_world.specs.World.{World};
-ghost use Rattle.world_check.specs.Counted.{amount, names_if};
+ghost use Rattle.world_check.specs.Counted.{AreFew, amount, most, names_if};
 ghost use Rattle.world_check.specs.LawfulParts.{HasLawfulCounts};
 
 use apex_base::{Kind, Record, RollbackState, Scale, State};
@@ -26,12 +25,19 @@ pub(crate) fn are_lawful_counts(sessions: &[Record], boots: &Boots, scale: Scale
     ensures { (w : World) → w.scale ≡ scale → w.sessions ≡ sessions.now → length w.eras ≡ boots.now.count
         → w.moments ≡ boots.now.moments.items → Decides result (HasLawfulCounts w) }
 {
-    let names = scale.modules();
-    has_begun(boots)
-        && are_few(sessions, Counted::Units, scale.units())
-        && are_few(sessions, Counted::Undoable, names)
-        && are_few(sessions, Counted::Available, names)
-        && are_few(sessions, Counted::Waiting, names)
+    if !has_begun(boots) {
+        return false;
+    }
+    if !are_few(sessions, Counted::Units, scale) {
+        return false;
+    }
+    if !are_few(sessions, Counted::Undoable, scale) {
+        return false;
+    }
+    if !are_few(sessions, Counted::Available, scale) {
+        return false;
+    }
+    are_few(sessions, Counted::Waiting, scale)
 }
 
 /// There was a boot, or there is no moment.
@@ -41,11 +47,11 @@ fn has_begun(boots: &Boots) -> bool
     boots.count != 0 || boots.moments.is_empty()
 }
 
-/// Whether sessions have at most so much of it together.
-fn are_few(sessions: &[Record], counted: Counted, most: u32) -> bool
-    ensures { Decides result (sum_by (amount counted) sessions.now ≤ most) }
+/// Whether sessions have at most as much of it together as the scale allows.
+fn are_few(sessions: &[Record], counted: Counted, scale: Scale) -> bool
+    ensures { Decides result (AreFew counted scale sessions.now) }
 {
-    let mut left = most as usize;
+    let mut left = most(counted, scale) as usize;
     for r in sessions {
         let amount = amount(counted, r);
         if amount > left {
@@ -54,6 +60,16 @@ fn are_few(sessions: &[Record], counted: Counted, most: u32) -> bool
         left -= amount;
     }
     true
+}
+
+/// How much of it sessions may have together.
+fn most(counted: Counted, scale: Scale) -> u32
+    ensures { result ≡ most counted scale }
+{
+    match counted {
+        Counted::Units => scale.units(),
+        Counted::Undoable | Counted::Available | Counted::Waiting => scale.modules(),
+    }
 }
 
 /// How much of it a session has.
