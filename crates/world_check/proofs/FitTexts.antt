@@ -182,6 +182,8 @@ record_fit r room has =
     let print = short_text r.print cause in
     let boot = four_text r.activation print in
     let fit = print_fit r.print cause has.printed
-    (cause_fit r.cause counts has.caused (room.few, (few_children r room, parts))) in
-    (state_fit r.state, kind_fit r.kind (rollback_number r.rollback ∷ eight_text r.moment boot)
-    (rollback_fit r.rollback, eight_fit r.moment boot (four_fit r.activation print fit)))
+    (cause_fit r.cause counts has.caused (room.few, (few_children r room, parts))) in (
+      state_fit r.state,
+      kind_fit r.kind (rollback_number r.rollback ∷ eight_text r.moment boot)
+          (rollback_fit r.rollback, eight_fit r.moment boot (four_fit r.activation print fit)),
+    )

@@ -99,11 +99,7 @@ fn units(kind: Kind) -> usize
 fn names_if(counts: bool, r: &Record) -> usize
     ensures { result ≡ names_if counts r.now }
 {
-    if counts {
-        r.parts.as_slice().len()
-    } else {
-        0
-    }
+    if counts { r.parts.as_slice().len() } else { 0 }
 }
 
 /// The next boot lets the session take another back.

@@ -63,5 +63,7 @@ returns c =
     let watches = c.are_lawful_watches.ensures.0 c.if-not-are_lawful_watches.false in
     let stored = c.in_ok-is_lawful_data.ensures.0 c.if-not-branch-2.false in
     IfOk-weaker c.are_lawful_modules.result (λ lawful. Decides lawful (HasLawfulModules w)) (λ lawful. Decides lawful (Lawful w))
-    (λ lawful d. (λ e. lawful_whole m scale c.requires.right sessions (d.0 e) stored watches counts,
-    λ law. d.1 (modules_of w law))) c.are_lawful_modules.ensures
+    (λ lawful d. (
+      λ e. lawful_whole m scale c.requires.right sessions (d.0 e) stored watches counts,
+      λ law. d.1 (modules_of w law),
+    )) c.are_lawful_modules.ensures
