@@ -1,0 +1,5 @@
+mod FilesWalked
+mod ModulesDecided
+mod ModulesTaken
+mod OpenedParts
+mod Owners

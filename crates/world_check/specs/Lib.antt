@@ -1,1 +1,3 @@
+pub mod FilesRead
 pub mod LawfulParts
+pub mod RightModules
