@@ -1,5 +1,5 @@
 -- Modules are lawful if and only if all that are kept can be taken from the scale's weight: `modules_decided`.
-use Rattle.std.proofs.Common.{◌≡◌, ℕ, ◌+◌, ◌-◌, ◌≤◌, Bool, true, List, Option, Some, Ok, is_some, sym, ap, subst, ◌∙◌, refl, arith}
+use Rattle.std.proofs.Common.{◌≡◌, ℕ, ◌-◌, Bool, true, List, Option, Some, Ok, is_some, sym, ap, subst, ◌∙◌, refl, arith}
 use Rattle.std.proofs.Common.{Decides}
 use Rattle.std.proofs.lemmas.Bool.{and_from, eq-eqb}
 use Rattle.apex_base.specs.declared.numbers.Scale.{Scale}
@@ -11,7 +11,7 @@ use Rattle.apex_base.specs.declared.records.Target.TheVariants as targets
 use Rattle.apex_base.specs.Held.{kept, is_module, is_target}
 use Rattle.apex_base.specs.Keys.{RowMap}
 use Rattle.apex_base.specs.Members.{In}
-use Rattle.apex_base.specs.Modules.{FileMap, IsModule}
+use Rattle.apex_base.specs.Modules.{IsModule}
 use Rattle.apex_base.specs.Numbers.{scale_file_weight}
 use Rattle.apex_base.proofs.Finding.{is_there}
 use Rattle.apex_base.proofs.MemberLemmas.{any_in, in_any}
@@ -22,14 +22,14 @@ use Rattle.apex_world.specs.Opened.{opened, opened_files, opened_sessions}
 use Rattle.apex_world.specs.Soundness.{checked}
 use Rattle.apex_world.specs.World.{World}
 use Rattle.apex_world.proofs.HeldModules.{this_module}
-use Rattle.apex_world.proofs.WorldRows.{same_id, submission_of}
+use Rattle.apex_world.proofs.WorldRows.{submission_of}
 use Rattle.session_check.specs.LawfulSessions.{AreLawfulSessions}
 use Rattle.world_check.specs.LawfulParts.{HasLawfulModules}
 use Rattle.world_check.specs.RightModules.{less_sessions}
-use Rattle.world_check.proofs.ModulesTaken.{IsRight, AllRight, weigh, sessions_taken, sessions_take}
-use Rattle.world_check.proofs.OpenedParts.{mods, part_modules, module_of, is_opened, mods_back, content_of, own_there}
+use Rattle.world_check.proofs.ModulesTaken.{AllRight, sessions_taken, sessions_take}
+use Rattle.world_check.proofs.OpenedParts.{mods, module_of, is_opened, mods_back, content_of, own_there}
 use Rattle.world_check.proofs.OpenedParts.{mods_there, mod_found, modules_distinct}
-use Rattle.world_check.proofs.Owners.{Owner, got_in, owned, kept_owned, place_of}
+use Rattle.world_check.proofs.Owners.{got_in, owned, kept_owned, place_of}
 
 some_is : {A : Type 0} (x y : A) → Some x ≡ Some y → x ≡ y
 some_is x y e = cc

@@ -1,7 +1,7 @@
 -- What is left once modules are taken tells that each is right and what they weigh. Callers want `sessions_taken` and
 -- `sessions_take`.
-use Rattle.std.proofs.Common.{◌≡◌, ℕ, ◌+◌, ◌-◌, ◌≤◌, Bool, true, false, cond, eqb, leb, ◌&&◌, List, [], ◌∷◌, ◌++◌}
-use Rattle.std.proofs.Common.{flat_map, Option, Some, None, Ok, sym, ap, subst, ◌∙◌, refl, inl, inr, arith}
+use Rattle.std.proofs.Common.{◌≡◌, ℕ, ◌+◌, ◌-◌, Bool, true, false, cond, eqb, leb, ◌&&◌, List, [], ◌∷◌}
+use Rattle.std.proofs.Common.{flat_map, Some, None, Ok, sym, ap, subst, ◌∙◌, refl, inl, inr, arith}
 use Rattle.std.specs.Prelude.{option_and_then}
 use Rattle.std.specs.List.{sum_by}
 use Rattle.std.proofs.lemmas.Bool.{and_parts, leb-true, le-leb}
