@@ -15,13 +15,14 @@ use std::collections::BTreeSet;
 
 /// The modules that are kept, by the session that submitted one, and its part.
 #[derive(Drop)]
-pub(crate) struct KeptParts {
+pub struct KeptParts {
     parts: BTreeSet<(u32, u32)>,
 }
 
 impl KeptParts {
-    /// The modules that the sessions keep, by what all names hold.
-    pub(crate) fn of(
+    /// The modules that the sessions keep, by what all names hold. It goes over the sessions once, and once more for each
+    /// part of a session that can be undone or rolled back. Fails only if memory runs out.
+    pub fn of(
         alloc: Global,
         records: &[Record],
         held: &HeldByName,
@@ -41,7 +42,7 @@ impl KeptParts {
     }
 
     /// Whether the module that this part of a session submitted is kept.
-    pub(crate) fn has(&self, session: SessionId, part: u32) -> bool
+    pub fn has(&self, session: SessionId, part: u32) -> bool
         ensures { result ≡ has_part self.now session part }
     {
         self.parts.contains(&(session.0, part))

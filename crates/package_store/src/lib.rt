@@ -15,6 +15,7 @@ mod tests;
 mod weight;
 
 pub use held::{HeldByName, held_by_name, target_of_name};
+pub use kept::KeptParts;
 pub use laws::{rows_are_those_shown, settled_by_key};
 pub use placing::put;
 pub use reading::module_of;

@@ -1,0 +1,4 @@
+pub mod Counted
+pub mod FilesRead
+pub mod LawfulParts
+pub mod RightModules

@@ -1,0 +1,12 @@
+//! Whether the world that rows open to is lawful, in a time that grows with the rows: `docs/rows.md`, "Lawful worlds".
+#![tactic(auto)]
+
+mod check;
+mod counts;
+mod data;
+mod modules;
+#[cfg(test)]
+mod tests;
+mod watches;
+
+pub use check::is_lawful;

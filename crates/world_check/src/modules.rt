@@ -1,0 +1,237 @@
+//! Rows of files: whether each module that is kept is there, is sound, and says its part's name and version.
+ghost use Rattle.std.specs.Prelude.{◌≡◌, ◌<◌, [], Decides, IfOk, true, false, option_map};
+ghost use Rattle.std.specs.List.{AllByRecursion};
+ghost use Rattle.apex_base.specs.Keys.{file_front};
+ghost use Rattle.apex_base.specs.Modules.{IsModule};
+ghost use Rattle.apex_base.specs.Text.{path_of};
+ghost use Rattle.apex_world.specs.Decided.{says};
+ghost use Rattle.apex_world.specs.Opened.{opened, opened_boots, opened_files, opened_sessions};
+ghost use Rattle.apex_world.specs.Soundness.{checked};
+ghost use Rattle.package_store.specs.Keeping.{has_part};
+ghost use Rattle.package_store.specs.Placed.{path_in};
+ghost use Rattle.package_store.specs.Settled.{HasPart, HaveParts};
+ghost use Rattle.session_check.specs.LawfulSessions.{AreLawfulSessions};
+ghost use Rattle.world_check.specs.FilesRead.{with_file, IsTooMuch};
+ghost use Rattle.world_check.specs.LawfulParts.{HasLawfulModules};
+ghost use Rattle.world_check.specs.RightModules.{if_module, less, less_module, less_target, less_parts, less_sessions};
+
+use apex_base::{FilePath, Module, Name, Part, PutWhy, Record, Scale, SessionId, Target, Version};
+use apex_manifest::ManifestWhy;
+use apex_world::check_module;
+use package_store::{KeptParts, held_by_name};
+use row_map::Rows;
+use std::alloc::{AllocError, Global};
+
+/// The greatest length of a file in bytes.
+const LENGTH: usize = 1048576;
+
+/// Whether each module that is kept is there, is sound, and says its part's name and version, and all are within the
+/// scale. It hashes each of them once, and has one of them in memory at a time. Fails only if memory runs out.
+pub(crate) fn are_lawful_modules(
+    alloc: Global,
+    rows: &Rows,
+    sessions: &[Record],
+    scale: Scale,
+) -> Result<bool, AllocError>
+    requires sessions { sessions.now ≡ opened_sessions rows.now }
+    requires lawful { AreLawfulSessions (opened_boots rows.now).0 sessions.now }
+    ensures { IfOk result (λ lawful. Decides lawful (HasLawfulModules (opened rows.now scale))) }
+{
+    let held = held_by_name(alloc, sessions)?;
+    let kept = KeptParts::of(alloc, sessions, &held)?;
+    let left = take_sessions(alloc, rows, &kept, sessions, scale.file_weight())?;
+    Ok(left.is_some())
+}
+
+/// What is left of a weight once the modules that are kept are taken, or None if one isn't right, or they weigh more.
+fn take_sessions(
+    alloc: Global,
+    rows: &Rows,
+    kept: &KeptParts,
+    sessions: &[Record],
+    left: u64,
+) -> Result<Option<u64>, AllocError>
+    requires { HaveParts sessions.now }
+    ensures { IfOk result (λ rest. rest ≡ less_sessions rows.now (has_part kept.now) left sessions.now) }
+{
+    let mut rest = left;
+    for r in sessions {
+        match take_parts(alloc, rows, kept, r, rest)? {
+            Some(less) => rest = less,
+            None => return Ok(None),
+        }
+    }
+    Ok(Some(rest))
+}
+
+/// The same for the modules that a session submitted.
+fn take_parts(
+    alloc: Global,
+    rows: &Rows,
+    kept: &KeptParts,
+    r: &Record,
+    left: u64,
+) -> Result<Option<u64>, AllocError>
+    requires { AllByRecursion (λ p. HasPart p.target) r.now.parts }
+    ensures { IfOk result (λ rest. rest ≡ less_parts rows.now (has_part kept.now) r.now.id left r.now.parts) }
+{
+    let mut rest = left;
+    for p in r.parts.as_slice() {
+        match take_part(alloc, rows, kept, r.id, p, rest)? {
+            Some(less) => rest = less,
+            None => return Ok(None),
+        }
+    }
+    Ok(Some(rest))
+}
+
+/// The same for the module of a part, if the session of this id submitted it.
+fn take_part(
+    alloc: Global,
+    rows: &Rows,
+    kept: &KeptParts,
+    id: SessionId,
+    p: &Part,
+    left: u64,
+) -> Result<Option<u64>, AllocError>
+    requires { HasPart p.now.target }
+    ensures { IfOk result
+        (λ rest. rest ≡ less_target rows.now (has_part kept.now) id p.now.name left p.now.target) }
+{
+    match p.target {
+        Target::Preinstalled => Ok(Some(left)),
+        Target::Module {
+            session,
+            part,
+            version,
+        } => {
+            if session.0 == id.0 && kept.has(session, part) {
+                match module_in(alloc, rows, session, part)? {
+                    Some(content) => less_module(alloc, &p.name, version, left, &content),
+                    None => Ok(None),
+                }
+            } else {
+                Ok(Some(left))
+            }
+        }
+    }
+}
+
+/// What is left once a module is taken, if it is sound, and says this name and version.
+fn less_module(
+    alloc: Global,
+    name: &Name,
+    version: Version,
+    left: u64,
+    content: &Module,
+) -> Result<Option<u64>, AllocError>
+    ensures { IfOk result (λ rest. rest ≡ less_module name.now version left content.now) }
+{
+    if says(alloc, content, name, version)? {
+        Ok(less(content.weight(), left))
+    } else {
+        Ok(None)
+    }
+}
+
+fn less(weight: u64, left: u64) -> Option<u64>
+    ensures { result ≡ less weight left }
+{
+    if weight <= left {
+        Some(left - weight)
+    } else {
+        None
+    }
+}
+
+/// Whether a module is sound, and says this name and version.
+fn says(alloc: Global, content: &Module, name: &Name, version: Version) -> Result<bool, AllocError>
+    ensures { IfOk result (λ b. b ≡ says (checked content.now) name.now version) }
+{
+    match check_module(alloc, content) {
+        Ok(manifest) => Ok(manifest.name.is_same(name) && manifest.version == version),
+        Err(ManifestWhy::Fault(_)) => Ok(false),
+        Err(ManifestWhy::NoMemory) => Err(AllocError),
+    }
+}
+
+/// The module that this part of a session submitted, or None if the rows have more files of it than a module may have,
+/// or a longer one. It reads the rows of these files, and one more.
+fn module_in(
+    alloc: Global,
+    rows: &Rows,
+    session: SessionId,
+    part: u32,
+) -> Result<Option<Module>, AllocError>
+    requires { part < 256 }
+    ensures { IfOk result (λ found. found ≡ if_module (opened_files rows.now session part)) }
+{
+    let start = file_front(session, part).to_vec(alloc)?;
+    let mut files = Module::new(alloc);
+    for (key, content) in rows.by_key().range(&start..) {
+        let Some(path) = path_in(session, part, key) else {
+            break;
+        };
+        if !add_file(alloc, &mut files, path, content.as_slice())? {
+            return Ok(None);
+        }
+    }
+    known_module(&files);
+    Ok(Some(files))
+}
+
+/// States for proofs that a module is within its limits. It does nothing.
+fn known_module(files: &Module)
+    ensures { IsModule files.now }
+{
+    let _ = files.files();
+}
+
+/// The first bytes of the keys of a module's files.
+fn file_front(session: SessionId, part: u32) -> [u8; 6]
+    requires { part < 256 }
+    ensures { result ≡ file_front session part [] }
+{
+    let [a, b, c, d] = session.0.to_be_bytes();
+    [5, a, b, c, d, part as u8]
+}
+
+/// The path in the key of a module's file.
+fn path_in(session: SessionId, part: u32, key: &[u8]) -> Option<&[u8]>
+    ensures { option_map (λ path. path.now) result ≡ path_in session part key.now }
+{
+    let Some((front, path)) = key.split_first_chunk::<6>() else {
+        return None;
+    };
+    let [tag, a, b, c, d, number] = *front;
+    if tag == 5 && [a, b, c, d] == session.0.to_be_bytes() && u32::from(number) == part {
+        Some(path)
+    } else {
+        None
+    }
+}
+
+/// Puts a file into a module, if its path is one. False if the module can't have it.
+fn add_file(
+    alloc: Global,
+    files: &mut Module,
+    path: &[u8],
+    content: &[u8],
+) -> Result<bool, AllocError>
+    ensures put { IfOk result
+        (λ has. has ≡ true → files.new ≡ with_file (path_of path.now) content.now files.old) }
+    ensures full { IfOk result (λ has. has ≡ false → IsTooMuch files.old path.now content.now) }
+{
+    let Some(path) = FilePath::read(path) else {
+        return Ok(true);
+    };
+    if content.len() > LENGTH {
+        return Ok(false);
+    }
+    match files.put(path, Vec::from_slice(alloc, content)?) {
+        Ok(()) => Ok(true),
+        Err(PutWhy::NoMemory) => Err(AllocError),
+        Err(PutWhy::Files) => Ok(false),
+        Err(PutWhy::Large { .. }) => Ok(false),
+    }
+}
