@@ -5,7 +5,7 @@ ghost use Rattle.apex_world.specs.Limits.{units_of};
 use crate::booted::judge_boot;
 use crate::manager::{Core, kind_units};
 use crate::tables::Tables;
-use apex_base::{Mounter, Record};
+use apex_base::{Listed, Mounter, Record};
 use apex_world::{BootOrder, BootReply};
 use package_store::{kept_weight, rows_are_those_shown};
 use row_map::Rows;
@@ -47,7 +47,7 @@ impl Core {
             units,
             weight,
             image,
-            active: judged.active,
+            active: Listed::of(judged.active),
             clock: order.time,
         };
         Ok((Core::of(after, tables), judged.reply))

@@ -1,0 +1,104 @@
+//! Calls whose modules are checked, before a core does them. What a call is to do stands in `judging`.
+ghost use Rattle.std.specs.Prelude.{◌≡◌, IfOk, IfSome, option_map};
+ghost use Rattle.apex_core.specs.Prepared.{call_of};
+
+use crate::checked::CheckedModule;
+use apex_base::{Boxed, Listed, Millis, SessionId};
+use apex_world::{Call, IdList, ModuleList};
+use std::alloc::{AllocError, Global};
+use std::marker::Model;
+
+/// A submit, each of its modules with what its check gave.
+#[derive(Drop)]
+pub struct CheckedSubmit {
+    pub(crate) id: SessionId,
+    pub(crate) children: IdList,
+    pub(crate) rollback: bool,
+    pub(crate) parts: Listed<CheckedModule>,
+}
+
+/// A call whose modules are checked. The calls that lines make have small forms.
+#[derive(Drop)]
+pub enum CheckedCall {
+    Submit(Boxed<CheckedSubmit>),
+    Ready { id: SessionId },
+    Abort { id: SessionId },
+    Success { time: Millis, id: SessionId },
+    StateOf { id: SessionId },
+    /// Any other call, which has no module.
+    Other(Boxed<Call>),
+}
+
+/// A call whose modules are checked, or what says that there was no memory for it. A contract sees the call, or None.
+#[derive(Drop)]
+pub struct Prepared {
+    checked: Option<CheckedCall>,
+}
+
+impl Model for Prepared {
+    ghost use Rattle.std.specs.Prelude.{Option, option_map};
+    ghost use Rattle.apex_world.specs.declared.calls.Call.{Call};
+    ghost use Rattle.apex_core.specs.Prepared.{call_of};
+
+    ghost Value = { Option Call };
+
+    ghost view = { λ prepared. option_map call_of prepared.checked };
+}
+
+impl Prepared {
+    /// The call, unless there was no memory for it.
+    pub fn into_call(self) -> Option<CheckedCall>
+        ensures { option_map call_of result ≡ self }
+    {
+        self.checked
+    }
+}
+
+/// Checks the modules of a submit, and keeps what the manifest of each says, or its first fault. Any other call it keeps as
+/// it is. Where memory runs out, the value says so.
+pub fn prepare(alloc: Global, call: Call) -> Prepared
+    ensures { IfSome result (λ c. c ≡ call) }
+{
+    Prepared {
+        checked: check_call(alloc, call).ok(),
+    }
+}
+
+fn check_call(alloc: Global, call: Call) -> Result<CheckedCall, AllocError>
+    ensures { IfOk result (λ c. call_of c ≡ call) }
+{
+    match call {
+        Call::Ready { id } => Ok(CheckedCall::Ready { id }),
+        Call::Abort { id } => Ok(CheckedCall::Abort { id }),
+        Call::Success { time, id } => Ok(CheckedCall::Success { time, id }),
+        Call::StateOf { id } => Ok(CheckedCall::StateOf { id }),
+        Call::Submit {
+            id,
+            children,
+            rollback,
+            parts,
+        } => {
+            let parts = check_parts(alloc, parts)?;
+            let submit = CheckedSubmit {
+                id,
+                children,
+                rollback,
+                parts,
+            };
+            Ok(CheckedCall::Submit(Boxed::new(alloc, submit)?))
+        }
+        other => Ok(CheckedCall::Other(Boxed::new(alloc, other)?)),
+    }
+}
+
+/// The modules, each checked.
+fn check_parts(alloc: Global, parts: ModuleList) -> Result<Listed<CheckedModule>, AllocError>
+    ensures { IfOk result (λ checked. checked ≡ parts) }
+{
+    let contents = parts.into_vec();
+    let mut checked = Vec::with_capacity(alloc, contents.len())?;
+    for content in contents {
+        checked.push(CheckedModule::of(alloc, content)?)?;
+    }
+    Ok(Listed::of(checked))
+}
