@@ -1,8 +1,6 @@
 //! A run: what it keeps, and how a turn enters its history. `enter_turn` is the commit point.
-use crate::calls::owned;
 use crate::device::Device;
 use crate::mounts::AllBut;
-use apex_core::{Answer, prepare};
 use apex_world::{BootReply, CallRef, Reply, ScriptBoot, TurnRow, Turns};
 use play_text::TurnText;
 use std::alloc::{AllocError, Global};
@@ -64,14 +62,9 @@ impl Run {
         ensures on { OnOk result (IsOn self.new.device) }
     {
         self.turns.reserve(1)?;
-        let prepared = prepare(alloc, owned(alloc, call)?);
-        match self.device.act(alloc, &row, prepared) {
-            Answer::Answered(reply) => {
-                self.enter_turn(row);
-                Ok(reply)
-            }
-            Answer::NoMemory { .. } => Err(AllocError),
-        }
+        let reply = self.device.call(alloc, &row, call)?;
+        self.enter_turn(row);
+        Ok(reply)
     }
 
     /// A boot happens, and its turn enters with the reply that it got; else as `enter_call`.
