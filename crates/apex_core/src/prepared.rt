@@ -37,10 +37,16 @@ pub struct Prepared {
 
 impl Model for Prepared {
     ghost use Rattle.std.specs.Prelude.{Option, option_map};
+    ghost use Rattle.std.specs.Ordering.{nat_cmp};
+    ghost use Rattle.std.specs.Cmp.Lexicographic.{slice_cmp};
+    ghost use Rattle.std.specs.Coded.{codes, coded_list, coded_ℕ};
+    ghost use Rattle.std.specs.FinMap as fin;
     ghost use Rattle.apex_world.specs.declared.calls.Call.{Call};
     ghost use Rattle.apex_core.specs.Prepared.{call_of};
 
     ghost Value = { Option Call };
+
+    ghost coded = { Prim.hlevel (codes, fin.code {R = slice_cmp nat_cmp} (coded_list coded_ℕ) (coded_list coded_ℕ)) };
 
     ghost view = { λ prepared. option_map call_of prepared.checked };
 }

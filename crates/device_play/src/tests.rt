@@ -1,7 +1,9 @@
 //! What no clause says of a run: that ample memory is enough, and what a source and a sink that fail leave. Scripts with
 //! their texts are worked scripts of the crate `worked_scripts`.
 use crate::{Fate, Played, Status, TurnRow, apex_play};
-use apex_base::{MemSink, MemSource, OpenGate};
+use apex_base::{Listed, MemSink, MemSource, Name, OpenGate, SessionId, Version};
+use apex_core::prepare;
+use apex_world::{Call, SharedModule};
 use device_script::LineFault;
 use std::alloc::Global;
 use std::test::Fail;
@@ -98,5 +100,20 @@ fn a_sink_that_fails_keeps_a_front_of_the_text(rt: HostRuntime) -> Result<(), Fa
     }
     let (played, _) = play(rt.alloc(), "play", UPDATE, 0, 14)?;
     assert_eq!(rt; played.status, Status::Done);
+    Ok(())
+}
+
+#[test]
+fn calls_are_prepared_where_there_is_memory(rt: HostRuntime) -> Result<(), Fail> {
+    let name = Name::read(b"a").ok_or("a name")?;
+    let version = Version::new(2).ok_or("a version")?;
+    let submit = Call::Submit {
+        id: SessionId(1),
+        children: Listed::new(rt.alloc()),
+        rollback: false,
+        parts: Listed::one(rt.alloc(), SharedModule::short(name, version))?,
+    };
+    assert!(rt; prepare(rt.alloc(), submit).into_call().is_some());
+    assert!(rt; prepare(rt.alloc(), Call::Revert).into_call().is_some());
     Ok(())
 }
