@@ -15,7 +15,7 @@ ghost use Rattle.apex_world.specs.Playable.{IsBuilt};
 
 use crate::ending::{judge_abort, judge_success};
 use crate::judged::{Judged, Patch};
-use crate::prepared::CheckedCall;
+use crate::prepared::{CheckedCall, OtherCall};
 use crate::rows::{record_rows, session_in};
 use crate::sessions::session_with;
 use crate::submitting::judge_single;
@@ -101,6 +101,14 @@ pub fn judge(
         CheckedCall::Submit(submit) => judge_single(alloc, rows, tables, submit.get()),
         CheckedCall::Abort { id } => judge_abort(alloc, rows, tables, *id),
         CheckedCall::Success { time, id } => judge_success(alloc, rows, tables, *time, *id),
-        CheckedCall::Other(_) => unreachable!(),
+        CheckedCall::Other(call) => match call.get() {
+            OtherCall::Revert
+            | OtherCall::Commit { .. }
+            | OtherCall::Put { .. }
+            | OtherCall::Drop { .. }
+            | OtherCall::Get { .. }
+            | OtherCall::Watch { .. }
+            | OtherCall::Report { .. } => unreachable!(),
+        },
     }
 }

@@ -31,5 +31,5 @@ pub use checked::CheckedModule;
 pub use judged::{Judged, Patch};
 pub use judging::judge;
 pub use manager::Core;
-pub use prepared::{CheckedCall, CheckedSubmit, Prepared, prepare};
+pub use prepared::{CheckedCall, CheckedSubmit, OtherCall, Prepared, prepare};
 pub use tables::Tables;

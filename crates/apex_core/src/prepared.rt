@@ -1,10 +1,11 @@
 //! Calls whose modules are checked, before a core does them. What a call is to do stands in `judging`.
 ghost use Rattle.std.specs.Prelude.{◌≡◌, IfOk, IfSome, option_map};
+ghost use Rattle.apex_core.specs.declared.prepared.CheckedCall.TheVariants.{Other};
 ghost use Rattle.apex_core.specs.Prepared.{call_of};
 
 use crate::checked::CheckedModule;
-use apex_base::{Boxed, Listed, Millis, SessionId};
-use apex_world::{Call, IdList, ModuleList};
+use apex_base::{Boxed, Bytes, Listed, Millis, Name, Reason, SessionId};
+use apex_world::{Call, IdList, ModuleList, NameList};
 use std::alloc::{AllocError, Global};
 use std::marker::Model;
 
@@ -17,6 +18,39 @@ pub struct CheckedSubmit {
     pub(crate) parts: Listed<CheckedModule>,
 }
 
+/// A call that no line makes yet. It has no module.
+#[derive(Drop)]
+pub enum OtherCall {
+    Revert,
+    Commit {
+        id: SessionId,
+    },
+    Put {
+        name: Name,
+        key: Name,
+        value: Bytes,
+    },
+    Drop {
+        name: Name,
+        key: Name,
+    },
+    Get {
+        name: Name,
+        key: Name,
+    },
+    Watch {
+        time: Millis,
+        observer: Name,
+        duration: Millis,
+        names: NameList,
+    },
+    Report {
+        time: Millis,
+        name: Name,
+        reason: Reason,
+    },
+}
+
 /// A call whose modules are checked. The calls that lines make have small forms.
 #[derive(Drop)]
 pub enum CheckedCall {
@@ -25,8 +59,7 @@ pub enum CheckedCall {
     Abort { id: SessionId },
     Success { time: Millis, id: SessionId },
     StateOf { id: SessionId },
-    /// Any other call, which has no module.
-    Other(Boxed<Call>),
+    Other(Boxed<OtherCall>),
 }
 
 /// A call whose modules are checked, or what says that there was no memory for it. A contract sees the call, or None.
@@ -93,8 +126,35 @@ fn check_call(alloc: Global, call: Call) -> Result<CheckedCall, AllocError>
             };
             Ok(CheckedCall::Submit(Boxed::new(alloc, submit)?))
         }
-        other => Ok(CheckedCall::Other(Boxed::new(alloc, other)?)),
+        Call::Revert => other(alloc, OtherCall::Revert),
+        Call::Commit { id } => other(alloc, OtherCall::Commit { id }),
+        Call::Put { name, key, value } => other(alloc, OtherCall::Put { name, key, value }),
+        Call::Drop { name, key } => other(alloc, OtherCall::Drop { name, key }),
+        Call::Get { name, key } => other(alloc, OtherCall::Get { name, key }),
+        Call::Watch {
+            time,
+            observer,
+            duration,
+            names,
+        } => {
+            let watch = OtherCall::Watch {
+                time,
+                observer,
+                duration,
+                names,
+            };
+            other(alloc, watch)
+        }
+        Call::Report { time, name, reason } => {
+            other(alloc, OtherCall::Report { time, name, reason })
+        }
     }
+}
+
+fn other(alloc: Global, call: OtherCall) -> Result<CheckedCall, AllocError>
+    ensures { IfOk result (λ c. c ≡ Other call) }
+{
+    Ok(CheckedCall::Other(Boxed::new(alloc, call)?))
 }
 
 /// The modules, each checked.
