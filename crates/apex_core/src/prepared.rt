@@ -1,5 +1,6 @@
 //! Calls whose modules are checked, before a core does them. What a call is to do stands in `judging`.
-ghost use Rattle.std.specs.Prelude.{◌≡◌, IfOk, IfSome, option_map};
+ghost use Rattle.std.specs.Prelude.{◌≡◌, None, Some, IfOk, IfSome, option_map};
+ghost use Rattle.apex_world.specs.declared.calls.Call.TheVariants as calls;
 ghost use Rattle.apex_core.specs.declared.prepared.CheckedCall.TheVariants.{Other};
 ghost use Rattle.apex_core.specs.Prepared.{call_of};
 
@@ -85,6 +86,50 @@ impl Model for Prepared {
 }
 
 impl Prepared {
+    /// Ready, which has no module to check: the same as `prepare` of it, without a `Call` in between. So it is with the
+    /// next three.
+    pub fn ready(id: SessionId) -> Self
+        ensures { result ≡ Some (calls.Ready id) }
+    {
+        Prepared {
+            checked: Some(CheckedCall::Ready { id }),
+        }
+    }
+
+    /// Abort.
+    pub fn abort(id: SessionId) -> Self
+        ensures { result ≡ Some (calls.Abort id) }
+    {
+        Prepared {
+            checked: Some(CheckedCall::Abort { id }),
+        }
+    }
+
+    /// Success.
+    pub fn success(time: Millis, id: SessionId) -> Self
+        ensures { result ≡ Some (calls.Success time id) }
+    {
+        Prepared {
+            checked: Some(CheckedCall::Success { time, id }),
+        }
+    }
+
+    /// State.
+    pub fn state_of(id: SessionId) -> Self
+        ensures { result ≡ Some (calls.StateOf id) }
+    {
+        Prepared {
+            checked: Some(CheckedCall::StateOf { id }),
+        }
+    }
+
+    /// That there was no memory for the call.
+    pub fn without_memory() -> Self
+        ensures { result ≡ None }
+    {
+        Prepared { checked: None }
+    }
+
     /// The call, unless there was no memory for it.
     pub fn into_call(self) -> Option<CheckedCall>
         ensures { option_map call_of result ≡ self }

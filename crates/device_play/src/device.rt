@@ -13,9 +13,9 @@ ghost use Rattle.apex_world.specs.World.{World, empty_world};
 ghost use Rattle.device_play.specs.Device.{IsDeviceOf, IsOn};
 ghost use Rattle.device_play.specs.Events.{CanBoot};
 
-use crate::calls::owned;
+use crate::calls::prepared;
 use apex_base::{Mounter, Scale};
-use apex_core::{Answer, Core, Prepared, prepare};
+use apex_core::{Answer, Core, Prepared};
 use apex_world::{BootOrder, BootReply, CallRef, Reply, TurnRow};
 use row_map::Rows;
 use std::alloc::{AllocError, Global};
@@ -85,8 +85,7 @@ impl Device {
         ensures stays { (w : World) → IsDeviceOf self.old w → OnErr result (IsDeviceOf self.new w) }
         ensures on { IsOn self.new }
     {
-        let prepared = prepare(alloc, owned(alloc, call)?);
-        match self.act(alloc, row, prepared) {
+        match self.act(alloc, row, prepared(alloc, call)) {
             Answer::Answered(reply) => Ok(reply),
             Answer::NoMemory { .. } => Err(AllocError),
         }
