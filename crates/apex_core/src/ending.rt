@@ -22,10 +22,7 @@ use crate::files::take_files;
 use crate::judged::{Judged, Patch};
 use crate::rows::{record_rows, session_in};
 use crate::tables::Tables;
-use apex_base::{
-    Bytes, Listed, Millis, Move, Name, Part, Record, Refusal, SessionId, State, Target, before,
-    moved, place_of,
-};
+use apex_base::{Bytes, Listed, Millis, Move, Name, Part, Record, Refusal, SessionId, State, Target, before, moved, place_of};
 use apex_world::Reply;
 use row_codec::Row;
 use row_map::Rows;
