@@ -69,7 +69,7 @@ four None None None None x = refl
 pub admitted_one : (tables : Tables) (w : World) (id : SessionId) (m : FileMap) (p : Package) (o : Option Refusal)
     → Show tables w → is_caller_id id ≡ true → is_taken tables.sessions.items id ≡ false
     → package_of 1 m (checked m) ≡ Ok p
-    → part_refusal (Some tables.image) tables.sessions.items tables.active.items p ≡ o
+    → part_refusal (Some tables.image) tables.sessions.items tables.active p ≡ o
     → admitted w id [] (m ∷ []) ≡ judged (p ∷ []) o
 admitted_one tables w id m p o seen caller free sound refusal =
     let unused : is_taken w.sessions id ≡ false =

@@ -45,7 +45,7 @@ pub record HasBooted (judged : JudgedBoot) (order : BootOrder) (light : ℕ) (ta
   pub units : tables.units ≡ units_of judged.sessions.items
   pub weight : tables.weight ≡ light
   pub image : tables.image ≡ order.image
-  pub active : tables.active.items ≡ judged.active.items
+  pub active : tables.active ≡ judged.active.items
   pub clock : tables.clock ≡ order.time
 
 module _ (kept : RowMap) (w : World) (s : IsStored kept w) (order : BootOrder) (o : IsOrderOf w order)

@@ -1,7 +1,6 @@
 -- What a call leaves that was judged and done. Callers want `weighs`,
--- `small_now`, `small_next`, `weighs_next`, `stands_next`, `stands_same`, `stands_still` and `stands_quiet`.
-use Rattle.std.proofs.Common.{◌≡◌, ◌≤◌, ◌<◌, ◌^◌, ℕ, [], Some, sym, ap, subst, ◌∙◌, refl, arith, Result, Ok, Err}
-use Rattle.std.specs.Prelude.{OnOk, OnErr}
+-- `small_now`, `small_next`, `weighs_next`, `stands_next`, `stands_same` and `stands_quiet`.
+use Rattle.std.proofs.Common.{◌≡◌, ◌≤◌, ◌<◌, ◌^◌, ℕ, [], Some, sym, ap, subst, ◌∙◌, refl, arith}
 use Rattle.apex_base.specs.declared.numbers.Scale.{Scale}
 use Rattle.apex_base.specs.declared.numbers.Scale.TheVariants.{Small, Standard}
 use Rattle.apex_base.specs.Keys.{RowMap}
@@ -81,13 +80,6 @@ stands_same kept kept' before after w s e p = record {
   active = p.active ∙ s.active;
   clock = p.clock ∙ s.clock;
 }
-
--- after a call, or without memory, the core stands for a world
-pub stands_still : {X Y : Type 0} (result : Result X Y) (kept : RowMap) (tables : Tables) (w v : World)
-    → OnOk result (StandsFor kept tables v) → OnErr result (StandsFor kept tables w)
-    → (x : World) × StandsFor kept tables x
-stands_still (Ok x) kept tables w v next stays = (v, next)
-stands_still (Err y) kept tables w v next stays = (w, stays)
 
 -- the same rows and tables, where the call changes nothing
 pub stands_quiet : (kept : RowMap) (tables : Tables) (w : World) (call : Call) (judged : Judged)

@@ -32,7 +32,7 @@ pub record StandsFor (kept : RowMap) (tables : Tables) (w : World) : Type 0 wher
   pub units : tables.units ≡ units w
   pub weight : tables.weight ≡ weight w
   pub image : Some tables.image ≡ w.image
-  pub active : tables.active.items ≡ w.active
+  pub active : tables.active ≡ w.active
   pub clock : tables.clock ≡ w.clock
 
 -- the rows and the tables of a core

@@ -77,7 +77,7 @@ pub record IsPatched (patch : Patch) (kept : ℕ) (before after : Tables) : Type
   pub weight : after.weight ≡ kept
   pub scale : after.scale ≡ before.scale
   pub image : after.image ≡ before.image
-  pub active : after.active.items ≡ before.active.items
+  pub active : after.active ≡ before.active
 
 -- the same tables, whatever room they have
 pub record IsSame (before after : Tables) : Type 0 where
@@ -87,4 +87,4 @@ pub record IsSame (before after : Tables) : Type 0 where
   pub weight : after.weight ≡ before.weight
   pub scale : after.scale ≡ before.scale
   pub image : after.image ≡ before.image
-  pub active : after.active.items ≡ before.active.items
+  pub active : after.active ≡ before.active

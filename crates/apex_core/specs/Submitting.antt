@@ -32,7 +32,7 @@ use Rattle.apex_core.specs.declared.tables.Tables.{Tables}
 pub record Show (tables : Tables) (w : World) : Type 0 where
   pub sessions : tables.sessions.items ≡ w.sessions
   pub image : Some tables.image ≡ w.image
-  pub active : tables.active.items ≡ w.active
+  pub active : tables.active ≡ w.active
 
 -- the first refusal that a part meets beside what runs
 abbrev pub part_refusal : Option Image → List Record → List Pick → Package → Option Refusal

@@ -5,8 +5,8 @@ ghost use Rattle.apex_world.specs.Limits.{units_of};
 use crate::booted::judge_boot;
 use crate::manager::{Core, kind_units};
 use crate::tables::Tables;
-use apex_base::{Mounter, Record};
-use apex_world::{BootOrder, BootReply};
+use apex_base::{Listed, Mounter, Pick, Record};
+use apex_world::{ActiveSet, BootOrder, BootReply};
 use package_store::{kept_weight, rows_are_those_shown};
 use row_map::Rows;
 use std::alloc::{AllocError, Global};
@@ -47,11 +47,17 @@ impl Core {
             units,
             weight,
             image,
-            active: judged.active,
+            active: active_set(judged.active),
             clock: order.time,
         };
         Ok((Core::of(after, tables), judged.reply))
     }
+}
+
+fn active_set(picks: Vec<Pick>) -> ActiveSet
+    ensures { result ≡ picks.items }
+{
+    Listed::of(picks)
 }
 
 /// The units of these sessions.

@@ -1,6 +1,6 @@
 //! What a core keeps beside its rows, so that no call walks over them.
-use apex_base::{Millis, Pick, Record, Scale, Shared};
-use apex_world::Image;
+use apex_base::{Millis, Record, Scale, Shared};
+use apex_world::{ActiveSet, Image};
 
 /// The sessions, ascending by id, what they sum up to, and what runs since the last boot.
 #[derive(Drop)]
@@ -12,6 +12,6 @@ pub struct Tables {
     /// What the modules weigh that are kept.
     pub(crate) weight: u64,
     pub(crate) image: Shared<Image>,
-    pub(crate) active: Vec<Pick>,
+    pub(crate) active: ActiveSet,
     pub(crate) clock: Millis,
 }

@@ -3,7 +3,9 @@
 use crate::device::Device;
 use crate::run::Run;
 use crate::{Fate, Played, Status, TurnRow, apex_play};
-use apex_base::{MemSink, MemSource, OpenGate};
+use apex_base::{Listed, MemSink, MemSource, Name, OpenGate, SessionId, Version};
+use apex_core::prepare;
+use apex_world::{Call, SharedModule};
 use device_script::{LineFault, read_script};
 use std::alloc::Global;
 use std::test::Fail;
@@ -122,5 +124,20 @@ fn a_core_leaves_the_row_of_what_a_name_holds(rt: HostRuntime) -> Result<(), Fai
     // The module that session 1 submitted as part 0, version 5.
     let target = [1, 0, 0, 0, 1, 0, 0, 0, 0, 0, 0, 0, 0, 5].as_slice();
     assert_eq!(rt; core.into_rows().get(&[3, b'a']), Some(target));
+    Ok(())
+}
+
+#[test]
+fn calls_are_prepared_where_there_is_memory(rt: HostRuntime) -> Result<(), Fail> {
+    let name = Name::read(b"a").ok_or("a name")?;
+    let version = Version::new(2).ok_or("a version")?;
+    let submit = Call::Submit {
+        id: SessionId(1),
+        children: Listed::new(rt.alloc()),
+        rollback: false,
+        parts: Listed::one(rt.alloc(), SharedModule::short(name, version))?,
+    };
+    assert!(rt; prepare(rt.alloc(), submit).into_call().is_some());
+    assert!(rt; prepare(rt.alloc(), Call::Revert).into_call().is_some());
     Ok(())
 }

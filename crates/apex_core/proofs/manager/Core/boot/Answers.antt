@@ -32,7 +32,7 @@ of-requires g c =
             units = c.units_of-units.ensures ∙ ap units_of c.deref.ensures.value;
             weight = c.kept_weight-weight.ensures;
             image = c.in_ok-image.ensures;
-            active = refl;
+            active = c.active_set.ensures;
             clock = refl;
           }),
     )
@@ -50,6 +50,6 @@ returns-clause-stands g c w s o =
       units = c.units_of-units.ensures ∙ ap units_of c.deref.ensures.value;
       weight = c.kept_weight-weight.ensures;
       image = c.in_ok-image.ensures;
-      active = refl;
+      active = c.active_set.ensures;
       clock = refl;
     }))
