@@ -16,6 +16,7 @@ pub mod InPlace
 pub mod Judgements
 pub mod KeyModules
 pub mod Moved
+pub mod NamedSessions
 pub mod NewRows
 pub mod Parts
 pub mod Performed
@@ -30,4 +31,5 @@ pub mod Successes
 pub mod TakenBatches
 pub mod TakenFiles
 pub mod TurnedSessions
+pub mod UnfinishedSessions
 pub mod Weights

@@ -5,4 +5,5 @@ pub mod Judged
 pub mod Moving
 pub mod Submitting
 pub mod Taken
+pub mod Unfinished
 pub mod Weights

@@ -36,7 +36,7 @@ pub(crate) fn admit(
         return Err(Why::Fault(Refusal::IdTaken { id }));
     }
     let p = packaged(alloc, part)?;
-    match part_refusal(tables.image.get(), &tables.sessions, &tables.active, &p) {
+    match part_refusal(tables.image.get(), &tables.unfinished, &tables.active, &p) {
         Some(refusal) => Err(Why::Fault(refusal)),
         None => Ok(p),
     }
