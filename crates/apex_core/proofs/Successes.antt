@@ -44,7 +44,8 @@ use Rattle.apex_core.specs.declared.judged.Patch.TheVariants.{Success}
 use Rattle.apex_core.specs.declared.tables.Tables.{Tables}
 use Rattle.apex_core.specs.Core.{IsSimple, StandsFor}
 use Rattle.apex_core.specs.Ending.{record_change, held_before, backups_taken, success_batch}
-use Rattle.apex_core.specs.Judged.{IsJudged, patched, clock_after, units_after}
+use Rattle.apex_core.specs.Judged.{IsJudged, patched, clock_after, units_after, unfinished_after}
+use Rattle.apex_core.specs.Unfinished.{unfinished_with}
 use Rattle.apex_core.specs.Moving.{Moves}
 use Rattle.apex_core.specs.Taken.{files_taken}
 use Rattle.apex_core.proofs.Aborts.{numbered}
@@ -133,6 +134,7 @@ module _ (kept_rows : RowMap) (tables : Tables) (w : World) (s : StandsFor kept_
         (ap (λ (p : Patch). patched p w.sessions) patch)
         (ap (λ (p : Patch). clock_after p w.clock) patch ∙ later_one ∙ ap (λ n. max n time) s.clock)
         (ap (λ (p : Patch). units_after p (units w)) patch)
+        (λ name. ap (λ (p : Patch). unfinished_after p name (unfinished_with w.sessions name)) patch)
 
     -- a success of a session that is SUCCESS already
     again : is_success m.session.state ≡ true → after ≡ record w { clock = max w.clock time }

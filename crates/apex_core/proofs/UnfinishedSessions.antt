@@ -1,4 +1,4 @@
--- Which session is unfinished and has a name, once one session moved or is new. Callers want `left`, `never_again` and
+-- Which session is unfinished and has a name, once one session moved or is new. Callers want `left_moved` and
 -- `entered_left`.
 use Rattle.std.proofs.Common.{◌≡◌, ◌≢◌, ℕ, Bool, true, false, cond, ◌&&◌, ◌==◌, List, [], ◌∷◌, find, Option, Some, None, sym}
 use Rattle.std.proofs.Common.{ap, subst, ◌∙◌, refl, inl, inr, eqb, eqb-true, is_some}
@@ -12,6 +12,7 @@ use Rattle.apex_base.specs.declared.moves.Move.TheVariants as by
 use Rattle.apex_base.specs.declared.numbers.SessionId.{SessionId}
 use Rattle.apex_base.specs.declared.records.Part.{Part}
 use Rattle.apex_base.specs.declared.records.Record.{Record}
+use Rattle.apex_base.specs.declared.records.RollbackState.{RollbackState}
 use Rattle.apex_base.specs.declared.records.State.{State}
 use Rattle.apex_base.specs.declared.records.State.TheVariants as state
 use Rattle.apex_base.specs.Held.{is_unfinished}
@@ -24,6 +25,7 @@ use Rattle.apex_base.proofs.SessionLemmas.{of_found, of_lt, of_eq, of_gt, with_l
 use Rattle.apex_world.specs.Lawful.{Lawful}
 use Rattle.apex_world.specs.World.{World}
 use Rattle.apex_world.proofs.OpenedSessions.{one_session}
+use Rattle.apex_world.proofs.WorldRows.{same_id as equal_id}
 use Rattle.apex_core.specs.Unfinished.{unfinished_with, is_session, left_to, entered_to}
 use Rattle.apex_core.proofs.NamedSessions.{test}
 
@@ -159,6 +161,14 @@ find_nobody t [] none = refl
 find_nobody t (x ∷ xs) none =
     skipped (t x) x (find t xs) (none x (inl refl)) ∙ find_nobody t xs (λ y i. none y (inr i))
 
+-- where no unfinished session has the name, there is none
+pub none_unfinished : (ss : List Record) (name : List ℕ)
+    → ((r : Record) → In r ss → is_unfinished r.state ≡ true → names name r ≡ true → ⊥)
+    → unfinished_with ss name ≡ None
+none_unfinished ss name apart =
+    ap id_of (find_nobody (test name) ss (λ r i. false_from_ne_true (test name r) (λ e.
+    let (u, n) = and_parts (is_unfinished r.state) (names name r) e in apart r i u n)))
+
 -- A new session
 
 entered_if : (t : Record → Bool) (b : Bool) (s : Record) (ss : List Record) → t s ≡ b → session_of ss s.id ≡ None
@@ -277,3 +287,16 @@ module _ (w v : World) (law : Lawful w) (later : Lawful v) (r s : Record) (h : I
   pub left : (name : List ℕ)
       → left_to s name (unfinished_with w.sessions name) ≡ unfinished_with v.sessions name
   left name = left_if (is_unfinished s.state) (names name s) name refl refl
+
+-- after a move of a session
+pub left_moved : (w v : World) → Lawful w → Lawful v → (id : SessionId) (r s : Record) (b : State)
+    (rollback : Option RollbackState) (m : Move) → session_of w.sessions id ≡ Some r
+    → s ≡ record r { state = b; rollback = rollback } → moved r.state m ≡ Some b
+    → v.sessions ≡ with_session s w.sessions → (name : List ℕ)
+    → left_to s name (unfinished_with w.sessions name) ≡ unfinished_with v.sessions name
+left_moved w v law later id r s b rollback m there same goes put =
+    let (h, number) = of_found w.sessions id r there in
+    let its : s.id ≡ r.id = ap (λ (x : Record). x.id) same in
+    left w v law later r s h (ap (session_of w.sessions) (its ∙ equal_id r.id id number) ∙ there) its
+    (ap (λ (x : Record). x.parts) same) put
+    (λ u. never_again r.state b m goes (ap is_unfinished (sym (ap (λ (x : Record). x.state) same)) ∙ u))
