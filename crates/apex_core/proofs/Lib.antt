@@ -1,5 +1,6 @@
 pub mod Aborts
 pub mod Admitted
+pub mod BackupRows
 pub mod BatchOrder
 pub mod BatchRows
 pub mod Batches
