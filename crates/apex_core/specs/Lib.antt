@@ -6,4 +6,5 @@ pub mod Moving
 pub mod Prepared
 pub mod Submitting
 pub mod Taken
+pub mod Unfinished
 pub mod Weights

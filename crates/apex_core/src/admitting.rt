@@ -38,7 +38,7 @@ pub(crate) fn admit(
     let p = packaged(alloc, part)?;
     match part_refusal(
         tables.image.get(),
-        &tables.sessions,
+        &tables.unfinished,
         tables.active.as_slice(),
         &p,
     ) {

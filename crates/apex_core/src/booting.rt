@@ -5,6 +5,7 @@ ghost use Rattle.apex_world.specs.Limits.{units_of};
 use crate::booted::judge_boot;
 use crate::manager::{Core, kind_units};
 use crate::tables::Tables;
+use crate::unfinished::unfinished_of;
 use apex_base::{Listed, Mounter, Pick, Record};
 use apex_world::{ActiveSet, BootOrder, BootReply};
 use package_store::{kept_weight, rows_are_those_shown};
@@ -41,9 +42,11 @@ impl Core {
         rows_are_those_shown();
         let weight = kept_weight(after.by_key());
         let units = units_of(&judged.sessions);
+        let unfinished = unfinished_of(alloc, &judged.sessions)?;
         let tables = Tables {
             scale: order.scale,
             sessions: judged.sessions,
+            unfinished,
             units,
             weight,
             image,

@@ -22,6 +22,7 @@ mod running;
 mod sessions;
 mod submitting;
 mod tables;
+mod unfinished;
 mod weighing;
 mod windows;
 

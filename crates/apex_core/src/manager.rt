@@ -17,6 +17,7 @@ use crate::judging::judge;
 use crate::prepared::{CheckedCall, Prepared};
 use crate::sessions::session_with;
 use crate::tables::Tables;
+use crate::unfinished::{enter_names, leave_names, make_room_under};
 use crate::weighing::weight_after;
 use apex_base::{Kind, SessionId, State};
 use apex_world::{ActiveSet, Reply};
@@ -26,11 +27,14 @@ use std::marker::Model;
 
 /// Takes the memory that a patch needs.
 fn make_room(tables: &mut Tables, patch: &Patch) -> Result<(), AllocError>
-    ensures room { OnOk result (HasRoom patch.now tables.new.sessions) }
+    ensures room { OnOk result (HasRoom patch.now tables.new) }
     ensures same { IsSame tables.old tables.new }
 {
     match patch {
-        Patch::New { .. } => tables.sessions.reserve(1),
+        Patch::New { session, .. } => {
+            tables.sessions.reserve(1)?;
+            make_room_under(&mut tables.unfinished, session.get().parts.as_slice())
+        }
         Patch::Nothing | Patch::Session { .. } | Patch::Success { .. } => Ok(()),
     }
 }
@@ -38,24 +42,30 @@ fn make_room(tables: &mut Tables, patch: &Patch) -> Result<(), AllocError>
 /// Changes the tables. It takes no memory.
 fn apply(tables: &mut Tables, patch: Patch, weight: u64)
     requires placed { IsPlaced patch tables.old.sessions.items }
-    requires room { HasRoom patch tables.old.sessions }
+    requires room { HasRoom patch tables.old }
     requires few { units_after patch tables.old.units < 2 ^ 32 }
     ensures { IsPatched patch weight tables.old tables.new }
 {
     tables.weight = weight;
     match patch {
         Patch::Nothing => {}
-        Patch::Session { place, session } => tables.sessions[place] = session.into_inner(),
+        Patch::Session { place, session } => {
+            leave_names(&mut tables.unfinished, session.get());
+            tables.sessions[place] = session.into_inner();
+        }
         Patch::Success {
             place,
             session,
             clock,
         } => {
+            leave_names(&mut tables.unfinished, session.get());
             tables.sessions[place] = session.into_inner();
             tables.clock = clock;
         }
         Patch::New { place, session } => {
-            tables.units += kind_units(session.get().kind);
+            let r = session.get();
+            tables.units += kind_units(r.kind);
+            enter_names(&mut tables.unfinished, r.parts.as_slice(), r.id);
             let _ = tables.sessions.insert(place, session.into_inner());
         }
     }

@@ -1,4 +1,5 @@
 //! What a core keeps beside its rows, so that no call walks over them.
+use crate::unfinished::UnfinishedByName;
 use apex_base::{Millis, Record, Scale, Shared};
 use apex_world::{ActiveSet, Image};
 
@@ -7,6 +8,8 @@ use apex_world::{ActiveSet, Image};
 pub struct Tables {
     pub(crate) scale: Scale,
     pub(crate) sessions: Vec<Record>,
+    /// By their names, those that are unfinished.
+    pub(crate) unfinished: UnfinishedByName,
     /// How many units the sessions have.
     pub(crate) units: u32,
     /// What the modules weigh that are kept.

@@ -42,3 +42,8 @@ returns-then-changes_nothing-clause-stands c w s =
     let (none, nothing) = c.if-changes_nothing.ensures refl in
     stands_quiet c.args.rows.now c.args.tables.now w (call_of c.args.call.now) judged s
     (c.in_ok-judged.ensures.judged w s) none nothing
+
+pub returns-in_err-added-clause-stays : goal.returns-in_err-added-clause-stays
+returns-in_err-added-clause-stays c w s =
+    stands_same c.args.rows.now c.make_room-2.new.self c.args.tables.now c.make_room.new.tables w s (search rules)
+    c.in_ok-make_room.ensures.same
