@@ -1,19 +1,19 @@
 mod AloneRows
-mod EraValues
+pub mod EraValues
 mod FileRows
-mod KeptKeys
+pub mod KeptKeys
 mod KeptPlaces
 mod KeptSteps
-mod KeyOrder
+pub mod KeyOrder
 mod KeysRead
 mod MomentLists
 mod MomentSteps
 mod NameRows
 mod OpenedFiles
 mod OpenedParts
-mod OpenedRecords
-mod OpenedValues
-mod OpenedWorld
+pub mod OpenedRecords
+pub mod OpenedValues
+pub mod OpenedWorld
 mod OwnParts
 mod RightBoots
 mod RightKeptRows

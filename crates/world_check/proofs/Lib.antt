@@ -1,5 +1,13 @@
+mod Counting
 mod FilesWalked
+mod FitTexts
 mod ModulesDecided
 mod ModulesTaken
 mod OpenedParts
+mod OpenedRanges
+mod OpenedTableRanges
 mod Owners
+mod ReadTexts
+mod Refusing
+mod SmallParts
+mod WholeWorlds

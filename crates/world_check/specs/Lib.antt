@@ -1,3 +1,4 @@
+pub mod Counted
 pub mod FilesRead
 pub mod LawfulParts
 pub mod RightModules

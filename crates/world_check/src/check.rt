@@ -14,24 +14,32 @@ use row_opening::OpenedRows;
 use session_check::are_lawful;
 use std::alloc::{AllocError, Global};
 
-/// Whether the world is lawful that these rows open to. They are the rows of that world, and `opened` is what they open
+/// Whether the world is lawful that these rows open to. They are the rows of that world, and `found` is what they open
 /// to. It takes n log n steps for n rows, and hashes each module that is kept once. Fails only if memory runs out.
 pub fn is_lawful(
     alloc: Global,
     rows: &Rows,
-    opened: &OpenedRows,
+    found: &OpenedRows,
     scale: Scale,
 ) -> Result<bool, AllocError>
     requires right { opened_rows rows.now scale ≡ rows.now }
-    requires sessions { opened.now.sessions.items ≡ opened_sessions rows.now }
-    requires boots { (opened.now.boots.count, opened.now.boots.moments.items) ≡ opened_boots rows.now }
+    requires sessions { found.now.sessions.items ≡ opened_sessions rows.now }
+    requires boots { (found.now.boots.count, found.now.boots.moments.items) ≡ opened_boots rows.now }
     ensures { IfOk result (λ lawful. Decides lawful (Lawful (opened rows.now scale))) }
 {
-    let sessions = opened.sessions.as_slice();
-    let boots = &opened.boots;
-    Ok(are_lawful(alloc, sessions, boots.count)?
-        && are_lawful_counts(sessions, boots, scale)
-        && are_lawful_watches(rows, scale)
-        && is_lawful_data(alloc, rows, sessions, scale)?
-        && are_lawful_modules(alloc, rows, sessions, scale)?)
+    let sessions = found.sessions.as_slice();
+    let boots = &found.boots;
+    if !are_lawful(alloc, sessions, boots.count)? {
+        return Ok(false);
+    }
+    if !are_lawful_counts(sessions, boots, scale) {
+        return Ok(false);
+    }
+    if !are_lawful_watches(rows, scale) {
+        return Ok(false);
+    }
+    if !is_lawful_data(alloc, rows, sessions, scale)? {
+        return Ok(false);
+    }
+    are_lawful_modules(alloc, rows, sessions, scale)
 }

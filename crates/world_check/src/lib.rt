@@ -5,6 +5,8 @@ mod check;
 mod counts;
 mod data;
 mod modules;
+#[cfg(test)]
+mod tests;
 mod watches;
 
 pub use check::is_lawful;

@@ -6,3 +6,10 @@ ghost use Rattle.world_check.specs.LawfulParts.{HasLawfulWatches};
 
 use apex_base::Scale;
 use row_map::Rows;
+
+pub(crate) fn are_lawful_watches(rows: &Rows, scale: Scale) -> bool
+    requires right { opened_rows rows.now scale ≡ rows.now }
+    ensures { Decides result (HasLawfulWatches (opened rows.now scale)) }
+{
+    rows.has(&[0])
+}
