@@ -1,10 +1,10 @@
 mod AloneRows
-mod EraValues
+pub mod EraValues
 mod FileRows
-mod KeptKeys
+pub mod KeptKeys
 mod KeptPlaces
 mod KeptSteps
-mod KeyOrder
+pub mod KeyOrder
 mod KeysRead
 mod MomentLists
 mod MomentSteps
@@ -12,8 +12,8 @@ mod NameRows
 mod OpenedFiles
 mod OpenedParts
 mod OpenedRecords
-mod OpenedValues
-mod OpenedWorld
+pub mod OpenedValues
+pub mod OpenedWorld
 mod OwnParts
 mod RightBoots
 mod RightKeptRows
