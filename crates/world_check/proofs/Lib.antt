@@ -1,0 +1,4 @@
+mod FrontForms
+mod KeyForms
+mod RunSums
+mod WatchCounts

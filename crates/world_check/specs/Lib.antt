@@ -1,1 +1,4 @@
 pub mod LawfulParts
+pub mod DataRows
+pub mod Runs
+pub mod WatchRows
