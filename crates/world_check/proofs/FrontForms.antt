@@ -46,7 +46,7 @@ pub record IsDataRow (m : RowMap) (q v front : List ℕ) : Type 0 where
   pub name : List ℕ
   pub key : List ℕ
   pub is : q ≡ data_name name ++ key
-  pub front : front ≡ data_name name
+  pub begins : front ≡ data_name name
   pub value : value_of (opened_contents m) name key ≡ Some v
 
 -- A row of what a session keeps
@@ -59,7 +59,7 @@ pub record IsKeptRow (m : RowMap) (q v front : List ℕ) : Type 0 where
   pub kept : IsKeptTag tag
   pub low : id.0 < 2 ^ 32
   pub is : q ≡ kept_name tag id name ++ key
-  pub front : front ≡ kept_name tag id name
+  pub begins : front ≡ kept_name tag id name
   pub value : kept_row m tag id name key ≡ Some v
 
 abbrev pub IsFronted : RowMap → List ℕ → List ℕ → List ℕ → Type 0
@@ -87,7 +87,7 @@ module _ (m : RowMap) (scale : Scale) (right : opened_rows m scale ≡ m) where
     kept = kept;
     low = low;
     is = is;
-    front = front_at q (kept_name tag id name ++ key) front (kept_name tag id name) is f
+    begins = front_at q (kept_name tag id name ++ key) front (kept_name tag id name) is f
         (kept_front_of tag id name key kept);
     value = has;
   }
@@ -104,7 +104,7 @@ module _ (m : RowMap) (scale : Scale) (right : opened_rows m scale ≡ m) where
     name = name;
     key = key;
     is = is;
-    front = front_at q (data_name name ++ key) front (data_name name) is f (data_front_of name key);
+    begins = front_at q (data_name name ++ key) front (data_name name) is f (data_front_of name key);
     value = has;
   })
   fronted_by q v front (SnapshotOf id name key) i is f has =
@@ -128,13 +128,13 @@ pub record IsFull (q front : List ℕ) : Type 0 where
 pub full_front : (m : RowMap) (q v front : List ℕ) → IsFronted m q v front → IsFull q front
 full_front m q v front (inl row) = record {
   key = row.key;
-  is = row.is ∙ ap (λ (f : List ℕ). f ++ row.key) (sym row.front);
-  each = λ other. subst (λ (f : List ℕ). front_of (f ++ other) ≡ Some f) (sym row.front)
+  is = row.is ∙ ap (λ (f : List ℕ). f ++ row.key) (sym row.begins);
+  each = λ other. subst (λ (f : List ℕ). front_of (f ++ other) ≡ Some f) (sym row.begins)
       (data_front_of row.name other);
 }
 full_front m q v front (inr row) = record {
   key = row.key;
-  is = row.is ∙ ap (λ (f : List ℕ). f ++ row.key) (sym row.front);
-  each = λ other. subst (λ (f : List ℕ). front_of (f ++ other) ≡ Some f) (sym row.front)
+  is = row.is ∙ ap (λ (f : List ℕ). f ++ row.key) (sym row.begins);
+  each = λ other. subst (λ (f : List ℕ). front_of (f ++ other) ≡ Some f) (sym row.begins)
       (kept_front_of row.tag row.id row.name other row.kept);
 }

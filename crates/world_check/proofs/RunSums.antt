@@ -1,5 +1,5 @@
--- Runs weigh what the things of their keys do, and have each key once. Callers want `light_forth`, `light_back`,
--- `run_key_back`, `run_key_there` and `run_keys_apart`.
+-- Runs weigh what the things of their keys do, and have each key once. Callers want `weight_some`, `light_forth`,
+-- `light_back`, `run_key_back`, `run_key_there` and `run_keys_apart`.
 use Rattle.std.proofs.Common.{◌≡◌, ◌≢◌, ◌⊎◌, ℕ, ◌+◌, ◌≤◌, Bool, true, false, cond, ◌&&◌, leb, List, [], ◌∷◌, sym, ap}
 use Rattle.std.proofs.Common.{◌∙◌, refl, inl, inr, Decides, arith}
 use Rattle.std.specs.List.{sum_by}
@@ -36,6 +36,20 @@ module _ {K : Type 0} (same : K → K → Bool) (is : (a b : K) → Decides (sam
       ap (λ (b : Bool). cond b x.1 0) (not_same q x.0 (d x (inl refl))) in
       let rest = weight_none q xs (λ y h. d y (inr h)) in
       omega (arith, first, rest, sum_by-cons (weight_if same q) x xs)
+
+  some_if : (b : Bool) (q : K) (x : Item) (xs : List Item) → same q x.0 ≡ b
+      → (key_weight same q xs ≡ 0) ⊎ ((y : Item) × In y xs × (y.0 ≡ q))
+      → (key_weight same q (x ∷ xs) ≡ 0) ⊎ ((y : Item) × In y (x ∷ xs) × (y.0 ≡ q))
+  some_if true q x xs e more = inr (x, inl refl, sym ((is q x.0).0 e))
+  some_if false q x xs e (inl none) =
+      let first : weight_if same q x ≡ 0 = ap (λ (b : Bool). cond b x.1 0) e in
+      inl (omega (arith, first, none, sum_by-cons (weight_if same q) x xs))
+  some_if false q x xs e (inr (y, h, f)) = inr (y, inr h, f)
+
+  -- a key that weighs something is that of a thing
+  pub weight_some : (q : K) (xs : List Item) → (key_weight same q xs ≡ 0) ⊎ ((y : Item) × In y xs × (y.0 ≡ q))
+  weight_some q [] = inl refl
+  weight_some q (x ∷ xs) = some_if (same q x.0) q x xs refl (weight_some q xs)
 
   -- one thing more: b says that it goes on with the run, c and d that the run and the thing are of a key
   step_forth : (b c d : Bool) (kw w x most : ℕ) → (b ≡ true → c ≡ d) → (b ≡ false → c ≡ true → (d ≡ false) × (kw ≡ 0))
@@ -75,7 +89,7 @@ module _ {K : Type 0} (same : K → K → Bool) (is : (a b : K) → Decides (sam
       → are_light same most k w xs ≡ true → (q : K) → key_weight same q xs + cond (same q k) w 0 ≤ most
   light_forth most k w [] g s l e q = none (same q k) where
     none : (b : Bool) → 0 + cond b w 0 ≤ most
-    none true = l
+    none true = omega (arith, l)
     none false = omega arith
   light_forth most k w (x ∷ xs) g s l e q =
       let parts = and_parts (leb (run_weight same k w x) most) (are_light same most x.0 (run_weight same k w x) xs) e in
@@ -92,9 +106,10 @@ module _ {K : Type 0} (same : K → K → Bool) (is : (a b : K) → Decides (sam
       let each : (q : K) → key_weight same q xs + cond (same q x.0) (run_weight same k w x) 0 ≤ most = λ q.
       step_back (same k x.0) (same q k) (same q x.0) (key_weight same q xs) w x.1 most (goes_same q k x)
       (goes_other q k x xs g) (let a = all q in let c = sum_by-cons (weight_if same q) x xs in omega (arith, a, c)) in
-      let own : key_weight same x.0 xs + run_weight same k w x ≤ most =
-      rw (is x.0 x.0).1 refl at each x.0 in
-      and_from _ _ (le-leb _ _ (omega (arith, own)))
+      let own = each x.0 in
+      let itself : same x.0 x.0 ≡ true = (is x.0 x.0).1 refl in
+      let low : key_weight same x.0 xs + run_weight same k w x ≤ most = rw itself at own in
+      and_from _ _ (le-leb _ _ (omega (arith, low)))
       (light_back most x.0 (run_weight same k w x) xs s.0 s.1 each)
 
   -- The keys of runs

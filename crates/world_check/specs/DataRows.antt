@@ -1,6 +1,6 @@
 -- Rows of data, and of what sessions keep of it, by the front of their keys: docs/rows.md, tags 6, 7 and 8. A front is a
 -- key up to the end of its name, so that the rows of one name stand under one front.
-use Rattle.std.specs.Prelude.{ℕ, ◌+◌, ◌==◌, ◌||◌, nat_le, Bool, List, [], ◌∷◌, length, map, take, drop, slice_get, Option}
+use Rattle.std.specs.Prelude.{◌≡◌, ℕ, ◌+◌, ◌++◌, ◌==◌, ◌||◌, nat_le, Bool, List, [], ◌∷◌, length, map, take, drop, slice_get, Option}
 use Rattle.std.specs.Prelude.{Some, None, if◌then◌else◌}
 use Rattle.std.specs.Int.{w32}
 use Rattle.std.specs.Option.{option_map}
@@ -79,3 +79,10 @@ counted boots = map (λ b. (b, 1)) boots
 
 abbrev pub same_boot : ℕ → ℕ → Bool
 same_boot a b = a == b
+
+-- what is added for a key's row: with its boots and the last front, the boots of all rows are as they were before
+abbrev pub Adds : List Record → List ℕ → List ℕ → List ℕ → List ℕ → List ℕ → Type 0
+Adds sessions last key before next after =
+    (value : List ℕ) (rows : List Row)
+    → after ++ map (boot_of sessions) (run_keys bytes_eq next (weights_in rows))
+    ≡ before ++ map (boot_of sessions) (run_keys bytes_eq last (weights_in ((key, value) ∷ rows)))

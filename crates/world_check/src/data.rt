@@ -8,9 +8,9 @@ ghost use Rattle.apex_base.specs.Sessions.{Ascend};
 ghost use Rattle.apex_world.specs.Opened.{opened, opened_boots, opened_sessions};
 ghost use Rattle.row_opening.specs.BadRows.{opened_rows};
 ghost use Rattle.session_check.specs.LawfulSessions.{AreLawfulSessions};
-ghost use Rattle.world_check.specs.DataRows.{weights_in, weighed, next_run, boots_in, counted, same_boot};
+ghost use Rattle.world_check.specs.DataRows.{weights_in, weighed, next_run, boots_in, counted, same_boot, Adds};
 ghost use Rattle.world_check.specs.LawfulParts.{HasLawfulData};
-ghost use Rattle.world_check.specs.Runs.{are_light, key_weight};
+ghost use Rattle.world_check.specs.Runs.{are_light, key_weight, run_weight};
 
 use crate::fronts::{boot_of, front_of};
 use apex_base::{Record, Scale};
@@ -63,7 +63,7 @@ fn are_light(rows: &Rows, most: u64) -> bool
 /// The run that goes on or begins with a row, if it doesn't weigh too much.
 fn next_run<'a>(run: Run<'a>, key: &'a [u8], value: &[u8], most: u64) -> Option<Run<'a>>
     ensures { option_map (λ next. (next.front.now, next.weight)) result
-        ≡ next_run most (run.front.now, run.weight) (weighed (key.now, value.now)) }
+        ≡ next_run most (run.entry.front.now, run.entry.weight) (weighed (key.now, value.now)) }
 {
     let Some(front) = front_of(key) else {
         return Some(run);
@@ -99,14 +99,29 @@ fn boots_in(alloc: Global, rows: &Rows, sessions: &[Record]) -> Result<Vec<u32>,
     let mut boots = Vec::new(alloc);
     let mut last: &[u8] = &[];
     for (key, _) in rows.by_key() {
-        if let Some(front) = front_of(key.as_slice()) {
-            if front != last {
-                boots.push(boot_of(sessions, front))?;
-            }
-            last = front;
-        }
+        last = add_boot(&mut boots, sessions, last, key.as_slice())?;
     }
     Ok(boots)
+}
+
+/// Adds the boot of a key's front, where that is another than the last. The last front, from then on.
+fn add_boot<'a>(
+    boots: &mut Vec<u32>,
+    sessions: &[Record],
+    last: &'a [u8],
+    key: &'a [u8],
+) -> Result<&'a [u8], AllocError>
+    requires { Ascend sessions.now }
+    ensures { IfOk result (λ next. Adds sessions.now last.now key.now boots.old.items next.now boots.new.items) }
+{
+    let Some(front) = front_of(key) else {
+        return Ok(last);
+    };
+    if last == front {
+        return Ok(last);
+    }
+    boots.push(boot_of(sessions, front))?;
+    Ok(front)
 }
 
 /// Whether no boot stands in the list more often than that.
@@ -124,11 +139,19 @@ fn are_few_sorted(boots: &[u32], most: u32) -> bool
     let mut boot = 0;
     let mut count = 0;
     for b in boots {
-        count = if boot == *b { count + 1 } else { 1 };
+        count = run_count(boot, count, *b);
         boot = *b;
-        if count > most {
+        if count > u64::from(most) {
             return false;
         }
     }
     true
+}
+
+/// How often a boot stands in a row, with one more.
+fn run_count(boot: u32, count: u64, next: u32) -> u64
+    requires { count < 2 ^ 32 }
+    ensures { result ≡ run_weight same_boot boot count (next, 1) }
+{
+    if boot == next { count + 1 } else { 1 }
 }
