@@ -11,7 +11,7 @@ mod MomentSteps
 mod NameRows
 mod OpenedFiles
 mod OpenedParts
-mod OpenedRecords
+pub mod OpenedRecords
 pub mod OpenedValues
 pub mod OpenedWorld
 mod OwnParts
