@@ -1,4 +1,6 @@
 mod BootCounts
+mod BootNames
+mod EraRows
 mod FrontForms
 mod FrontWeights
 mod KeyForms
