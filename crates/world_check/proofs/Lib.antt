@@ -1,5 +1,6 @@
 mod BootCounts
 mod BootNames
+mod DataDecided
 mod EraRows
 mod FrontForms
 mod FrontWeights
