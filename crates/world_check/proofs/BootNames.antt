@@ -4,12 +4,12 @@ use Rattle.std.proofs.Common.{◌≡◌, ◌≢◌, ◌⊎◌, ℕ, ◌+◌, ◌
 use Rattle.std.proofs.Common.{drop, Option, Some, None, sym, ap, subst, ◌∙◌, refl, inl, inr, arith}
 use Rattle.std.specs.Prelude.{fold, IfSome}
 use Rattle.std.specs.FinMap as fin
-use Rattle.std.specs.FinMap.{is_sorted, get-empty, get-insert, get-remove, len-entries}
+use Rattle.std.specs.FinMap.{get-empty, get-insert, get-remove, len-entries}
 use Rattle.std.specs.Option.{option_map}
 use Rattle.std.specs.Ordering.{nat_cmp, eq_by_cmp}
 use Rattle.std.specs.Cmp.Lexicographic.{slice_cmp, nat_list_cmp_total}
 use Rattle.std.specs.Str.{bytes_eq}
-use Rattle.std.proofs.lemmas.Bool.{true≢false, and_parts, eqb-true, eq-eqb}
+use Rattle.std.proofs.lemmas.Bool.{true≢false, eqb-true, eq-eqb}
 use Rattle.std.proofs.lemmas.List.{length-map}
 use Rattle.std.proofs.lemmas.List.Sums.{sum_by-cons}
 use Rattle.std.proofs.lemmas.Slice.Eq.{bytes_eq-Decides}
@@ -21,8 +21,8 @@ use Rattle.apex_base.specs.Members.{In, EachPair}
 use Rattle.apex_base.specs.Sessions.{names}
 use Rattle.apex_base.specs.Tables.{NameMap, Table, or_empty, with_part, value_of}
 use Rattle.apex_base.proofs.Finding.{filtered}
-use Rattle.apex_base.proofs.MemberLemmas.{in_map, in_map_back, in_filter, each_in, in_each}
-use Rattle.apex_base.proofs.RowMaps.{below_in, sorted_entries, entry_get, in_entries, in_keys}
+use Rattle.apex_base.proofs.MemberLemmas.{in_map, in_map_back, in_filter}
+use Rattle.apex_base.proofs.RowMaps.{sorted_entries, entry_get, in_entries, in_keys}
 use Rattle.apex_base.proofs.SessionLemmas.{of_in}
 use Rattle.apex_base.proofs.SumLemmas.{length_most}
 use Rattle.apex_base.proofs.TableLemmas.{some_value}
@@ -34,12 +34,13 @@ use Rattle.row_opening.specs.KeptRows.{IsKeptTag, counting}
 use Rattle.row_opening.proofs.EraValues.{opened_at}
 use Rattle.row_opening.proofs.OpenedRecords.{session_id}
 use Rattle.session_check.specs.LawfulSessions.{AreLawfulSessions}
-use Rattle.world_check.specs.DataRows.{Row, front_of, value_weight, weighed, weights_in, boot_of, boots_in, counted, same_boot}
+use Rattle.world_check.specs.DataRows.{Row, front_of, value_weight, weighed, weights_in, boot_of, counted, same_boot}
 use Rattle.world_check.specs.Runs.{weight_if, key_weight, run_keys}
+use Rattle.world_check.proofs.Differing.{keys_differ, mapped_differ, filter_differ}
 use Rattle.world_check.proofs.EraRows.{tag_of, tag_if, boot_kept, data_is, era_is, era_none, one_session, counted_back, IsDataFront}
 use Rattle.world_check.proofs.EraRows.{IsSessionFront, front_kind, session_boot}
 use Rattle.world_check.proofs.FrontForms.{data_name, kept_name, data_front_of, kept_front_of, fronted, full_front}
-use Rattle.world_check.proofs.RowRuns.{Item, AllFull, weighed_as, weight_back, weight_there, rows_together, rows_begin, no_empty_front}
+use Rattle.world_check.proofs.RowRuns.{AllFull, weighed_as, weight_back, weight_there, rows_together, rows_begin, no_empty_front}
 use Rattle.world_check.proofs.RunSums.{run_key_back, run_key_there, run_keys_apart}
 
 -- Tables are made of parts that have something
@@ -81,26 +82,6 @@ module _ {X : Type 0} (f : List ℕ → NameMap X) where
 
 -- A table has as many names as a list of fronts that has one for each
 
-keys_differ : {X : Type 0} (es : List (List ℕ × X)) → is_sorted (slice_cmp nat_cmp) es ≡ true
-    → EachPair (λ (a b : List ℕ). a ≢ b) (map (λ (e : List ℕ × X). e.0) es)
-keys_differ [] s = tt
-keys_differ {X} (e ∷ es) s = (
-  in_each (λ (b : List ℕ). e.0 ≢ b) (map (λ (e : List ℕ × X). e.0) es) (λ b h same.
-      let (f, i, is) = in_map_back (λ (e : List ℕ × X). e.0) b es h in
-      below_in e.0 es f (and_parts _ _ s).0 i (same ∙ sym is)),
-  keys_differ es (and_parts _ _ s).1,
-)
-
-mapped_differ : (g : List ℕ → List ℕ) (fs : List (List ℕ)) → EachPair (λ (a b : List ℕ). a ≢ b) fs
-    → ((a b : List ℕ) → In a fs → In b fs → g a ≡ g b → a ≡ b) → EachPair (λ (a b : List ℕ). a ≢ b) (map g fs)
-mapped_differ g [] d one = tt
-mapped_differ g (f ∷ fs) d one = (
-  in_each (λ (b : List ℕ). g f ≢ b) (map g fs) (λ b h same.
-      let (a, i, is) = in_map_back g b fs h in
-      each_in (λ (a : List ℕ). f ≢ a) fs d.0 a i (one f a (inl refl) (inr i) (same ∙ sym is))),
-  mapped_differ g fs d.1 (λ a b h i. one a b (inr h) (inr i)),
-)
-
 -- the fronts of the names that a table has
 pub record AreFrontsOf {X : Type 0} (t : Table X) (name_of : List ℕ → List ℕ) (fs : List (List ℕ)) : Type 0 where
   pub differ : EachPair (λ (a b : List ℕ). a ≢ b) fs
@@ -140,22 +121,6 @@ count_length sessions b (f ∷ fs) =
     let a = sum_by-cons (weight_if same_boot b) (boot_of sessions f, 1) (counted (map (boot_of sessions) fs)) in
     let c = count_step (of_boot sessions b f) f (filter (of_boot sessions b) fs) _ (count_length sessions b fs) in
     omega (arith, a, c)
-
-differ_if : (c : Bool) (test : List ℕ → Bool) (f : List ℕ) (fs : List (List ℕ))
-    → EachPair (λ (a b : List ℕ). a ≢ b) (f ∷ fs)
-    → EachPair (λ (a b : List ℕ). a ≢ b) (filter test fs)
-    → EachPair (λ (a b : List ℕ). a ≢ b) (cond c (f ∷ filter test fs) (filter test fs))
-differ_if false test f fs d more = more
-differ_if true test f fs d more = (
-  in_each (λ (b : List ℕ). f ≢ b) (filter test fs)
-      (λ b h. each_in (λ (b : List ℕ). f ≢ b) fs d.0 b (in_filter test b fs h).0),
-  more,
-)
-
-filter_differ : (test : List ℕ → Bool) (fs : List (List ℕ)) → EachPair (λ (a b : List ℕ). a ≢ b) fs
-    → EachPair (λ (a b : List ℕ). a ≢ b) (filter test fs)
-filter_differ test [] d = tt
-filter_differ test (f ∷ fs) d = differ_if (test f) test f fs d (filter_differ test fs d.1)
 
 -- the name at the end of a front
 unfoldable name_of : List ℕ → List ℕ

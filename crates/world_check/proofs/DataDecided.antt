@@ -1,7 +1,7 @@
 -- The rows tell whether data is lawful: the weights of fronts, and how often each boot has one. Callers want `too_heavy`
 -- and `few_data`.
-use Rattle.std.proofs.Common.{◌≡◌, ◌≢◌, ◌⊎◌, ℕ, zero, suc, ◌+◌, ◌<◌, ◌≤◌, Bool, true, false, cond, eqb, leb, List, [], ◌∷◌, ◌++◌, length, map}
-use Rattle.std.proofs.Common.{sum, Option, Some, None, sym, ap, subst, ◌∙◌, refl, inl, inr, arith, Decides}
+use Rattle.std.proofs.Common.{◌≡◌, ◌≢◌, ◌⊎◌, ℕ, zero, suc, ◌+◌, ◌<◌, ◌≤◌, Bool, true, false, cond, eqb, leb, List, [], ◌∷◌, length, map}
+use Rattle.std.proofs.Common.{sum, None, sym, ap, subst, ◌∙◌, refl, inl, inr, arith, Decides}
 use Rattle.std.specs.FinMap as fin
 use Rattle.std.specs.FinMap.{get-empty}
 use Rattle.std.specs.List.{range_with_len}
@@ -17,7 +17,7 @@ use Rattle.apex_base.specs.Members.{In}
 use Rattle.apex_base.specs.Numbers.{scale_modules, scale_data_weight}
 use Rattle.apex_base.specs.RowSums.{entry_weight}
 use Rattle.apex_base.specs.Sessions.{names}
-use Rattle.apex_base.specs.Tables.{NameMap, part_of, value_of}
+use Rattle.apex_base.specs.Tables.{part_of, value_of}
 use Rattle.apex_base.proofs.MemberLemmas.{in_map, in_map_back}
 use Rattle.apex_base.proofs.RowMaps.{same_names, sorted_entries, entry_get}
 use Rattle.apex_base.proofs.RowWeights.{no_entries}
@@ -30,10 +30,10 @@ use Rattle.row_opening.specs.BadRows.{opened_rows}
 use Rattle.row_opening.specs.KeptRows.{counting}
 use Rattle.row_opening.proofs.EraValues.{opened_at}
 use Rattle.session_check.specs.LawfulSessions.{AreLawfulSessions}
-use Rattle.world_check.specs.DataRows.{weights_in, boot_of, boots_in, counted, same_boot}
+use Rattle.world_check.specs.DataRows.{weights_in, boots_in, counted, same_boot}
 use Rattle.world_check.specs.LawfulParts.{HasLawfulData}
 use Rattle.world_check.specs.Runs.{are_light, key_weight}
-use Rattle.world_check.proofs.BootNames.{rows, all_full, fronts, fronts_at, count_length, contents_count, era_count, later_none}
+use Rattle.world_check.proofs.BootNames.{all_full, fronts, fronts_at, count_length, contents_count, era_count, later_none}
 use Rattle.world_check.proofs.EraRows.{tag_of, tag_if, data_is, era_is, era_none, counted_back, IsDataFront, IsSessionFront, front_kind}
 use Rattle.world_check.proofs.FrontForms.{data_name, kept_name, data_front_of, kept_front_of}
 use Rattle.world_check.proofs.FrontWeights.{front_weighs}

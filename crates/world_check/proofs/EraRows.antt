@@ -1,7 +1,7 @@
 -- What a name had just before a boot is what the rows of the one session say that this boot activated and that names it.
 -- Callers want `data_is`, `era_is`, `era_none`, `front_kind` and `boot_kept`.
 use Rattle.std.proofs.Common.{◌≡◌, ◌≢◌, ◌⊎◌, ℕ, ◌<◌, ◌≤◌, ◌^◌, Bool, true, false, cond, eqb, ◌&&◌, not, List, [], ◌∷◌, ◌++◌}
-use Rattle.std.proofs.Common.{length, Option, Some, None, sym, ap, subst, ◌∙◌, refl, inl, inr, arith}
+use Rattle.std.proofs.Common.{length, Option, Some, None, sym, ap, subst, ◌∙◌, refl, inl, inr}
 use Rattle.std.specs.Prelude.{option_and_then, nat_le}
 use Rattle.std.specs.Int.{w32}
 use Rattle.std.specs.Option.{option_or}
@@ -13,7 +13,7 @@ use Rattle.apex_base.specs.declared.records.Kind.{Kind}
 use Rattle.apex_base.specs.declared.records.Kind.TheVariants.{Plain, WithRollback, RollbackOf}
 use Rattle.apex_base.specs.declared.records.Record.{Record}
 use Rattle.apex_base.specs.Commit.{rolls_back}
-use Rattle.apex_base.specs.Keys.{DataOf, RowMap, id_of, id_text, key_text}
+use Rattle.apex_base.specs.Keys.{DataOf, RowMap, id_text, key_text}
 use Rattle.apex_base.specs.Members.{In}
 use Rattle.apex_base.specs.Reading.{number_at, short_text}
 use Rattle.apex_base.specs.Sessions.{names, session_of}
@@ -23,7 +23,7 @@ use Rattle.apex_base.proofs.Finding.{filtered, some_if, some_then}
 use Rattle.apex_base.proofs.MemberLemmas.{in_filter}
 use Rattle.apex_base.proofs.SessionLemmas.{of_found, of_in}
 use Rattle.apex_base.proofs.SpellingLemmas.{four_again}
-use Rattle.apex_world.specs.Opened.{opened, opened_boots, opened_sessions, opened_contents, activated_at}
+use Rattle.apex_world.specs.Opened.{opened_boots, opened_sessions, opened_contents, activated_at}
 use Rattle.apex_world.specs.Rows.{has_snapshot, has_pre_restore, undoes}
 use Rattle.apex_world.proofs.WorldRows.{same_id}
 use Rattle.row_opening.specs.BadRows.{opened_rows}
@@ -34,7 +34,7 @@ use Rattle.row_opening.proofs.OpenedRecords.{session_id}
 use Rattle.row_opening.proofs.OpenedWorld.{opened_row}
 use Rattle.session_check.specs.LawfulSessions.{AreLawfulSessions}
 use Rattle.world_check.specs.DataRows.{front_of, boot_of, activation_at, activation_of}
-use Rattle.world_check.proofs.FrontForms.{data_name, kept_name, IsDataRow, IsKeptRow, IsFronted, fronted}
+use Rattle.world_check.proofs.FrontForms.{data_name, kept_name, IsKeptRow, IsFronted, fronted}
 
 -- Options
 
@@ -191,9 +191,9 @@ module _ (m : RowMap) (scale : Scale) (right : opened_rows m scale ≡ m) where
             ∙ ap (λ (o : Option (List ℕ)). cond (keeps ss tag r) (cond (names name r) o None) None) none
             ∙ ap (λ (o : Option (List ℕ)). cond (keeps ss tag r) o None) (no_value (names name r))
             ∙ no_value (keeps ss tag r) where
-          both_no : (b : Bool) → is_name key ≡ false → (b && is_name key) ≡ false
-          both_no true e = e
-          both_no false e = refl
+              both_no : (b : Bool) → is_name key ≡ false → (b && is_name key) ≡ false
+              both_no true e = e
+              both_no false e = refl
 
         value_if : (a b : Bool) → is_name key ≡ a → has_snapshot ss r ≡ b
             → cond a (option_or (at_tag 7) (at_tag 8)) None ≡ at_tag (cond b 7 8)

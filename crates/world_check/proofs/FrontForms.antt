@@ -1,17 +1,17 @@
 -- What the rows say whose keys have a front. Callers want `fronted` and `full_front`.
-use Rattle.std.proofs.Common.{◌≡◌, ◌⊎◌, ℕ, ◌+◌, ◌<◌, ◌^◌, List, [], ◌∷◌, ◌++◌, length, take, Option, Some, None, sym, ap}
+use Rattle.std.proofs.Common.{◌≡◌, ◌⊎◌, ℕ, ◌+◌, ◌<◌, ◌^◌, List, ◌∷◌, ◌++◌, length, Option, Some, None, sym, ap}
 use Rattle.std.proofs.Common.{subst, ◌∙◌, refl, inl, inr, arith}
 use Rattle.std.specs.FinMap as fin
 use Rattle.std.proofs.lemmas.List.{take_at}
 use Rattle.apex_base.specs.declared.numbers.Scale.{Scale}
 use Rattle.apex_base.specs.declared.numbers.SessionId.{SessionId}
 use Rattle.apex_base.specs.Keys.{Key, Boots, RecordOf, ActiveOf, BackupOf, FileOf, DataOf, SnapshotOf, PreRestoreOf}
-use Rattle.apex_base.specs.Keys.{WatchOf, IsKey, key_text, RowMap, data_front, id_text}
+use Rattle.apex_base.specs.Keys.{WatchOf, IsKey, key_text, RowMap, id_text}
 use Rattle.apex_base.specs.Tables.{value_of}
 use Rattle.apex_world.specs.Opened.{opened, opened_contents}
 use Rattle.apex_world.specs.Rows.{row_at}
 use Rattle.row_opening.specs.BadRows.{opened_rows}
-use Rattle.row_opening.specs.KeptRows.{IsKeptTag, kept_text, kept_row}
+use Rattle.row_opening.specs.KeptRows.{IsKeptTag, kept_row}
 use Rattle.row_opening.proofs.KeptKeys.{snapshot_is, pre_restore_is}
 use Rattle.world_check.specs.DataRows.{front_of}
 use Rattle.world_check.proofs.KeyForms.{row_found}

@@ -1,5 +1,5 @@
 -- What the rows of a front weigh is what the values weigh that stand after it. Callers want `front_weighs`.
-use Rattle.std.proofs.Common.{◌≡◌, ◌≢◌, ◌⊎◌, ℕ, ◌+◌, ◌≤◌, Bool, true, false, cond, List, [], ◌∷◌, ◌++◌, length, map, sum, drop, Option, Some, None}
+use Rattle.std.proofs.Common.{◌≡◌, ◌≢◌, ◌⊎◌, ℕ, ◌+◌, Bool, true, false, cond, List, [], ◌∷◌, ◌++◌, length, map, Option, Some, None}
 use Rattle.std.proofs.Common.{sym, ap, subst, ◌∙◌, refl, inl, inr, arith}
 use Rattle.std.specs.FinMap as fin
 use Rattle.std.specs.FinMap.{is_sorted}
@@ -22,15 +22,8 @@ use Rattle.apex_base.proofs.SumLemmas.{Matched, sum_most}
 use Rattle.apex_world.specs.Data.{part_weight}
 use Rattle.world_check.specs.DataRows.{Row, front_of, value_weight, weighed, with_some, weights_in}
 use Rattle.world_check.specs.Runs.{weight_if, key_weight}
+use Rattle.world_check.proofs.Differing.{entries_differ}
 use Rattle.world_check.proofs.RowRuns.{Item, AllFull, weighed_as}
-
--- keys in order differ
-entries_differ : (es : List Row) → is_sorted (slice_cmp nat_cmp) es ≡ true → EachPair (λ (e f : Row). e.0 ≢ f.0) es
-entries_differ [] s = tt
-entries_differ (e ∷ es) s = (
-  in_each (λ (f : Row). e.0 ≢ f.0) es (λ f h same. below_in e.0 es f (and_parts _ _ s).0 h same),
-  entries_differ es (and_parts _ _ s).1,
-)
 
 module _ (front : List ℕ) where
   -- what a row weighs, if it has this front

@@ -1,6 +1,7 @@
 mod BootCounts
 mod BootNames
 mod DataDecided
+mod Differing
 mod EraRows
 mod FrontForms
 mod FrontWeights

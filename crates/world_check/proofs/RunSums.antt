@@ -1,8 +1,7 @@
 -- Runs weigh what the things of their keys do, and have each key once. Callers want `weight_some`, `light_forth`,
 -- `light_back`, `run_key_back`, `run_key_there` and `run_keys_apart`.
-use Rattle.std.proofs.Common.{◌≡◌, ◌≢◌, ◌⊎◌, ℕ, ◌+◌, ◌≤◌, Bool, true, false, cond, ◌&&◌, leb, List, [], ◌∷◌, sym, ap}
+use Rattle.std.proofs.Common.{◌≡◌, ◌≢◌, ◌⊎◌, ℕ, ◌+◌, ◌≤◌, Bool, true, false, cond, leb, List, [], ◌∷◌, sym, ap}
 use Rattle.std.proofs.Common.{◌∙◌, refl, inl, inr, Decides, arith}
-use Rattle.std.specs.List.{sum_by}
 use Rattle.std.proofs.lemmas.Bool.{true≢false, and_parts, and_from, leb-true, le-leb}
 use Rattle.std.proofs.lemmas.List.Sums.{sum_by-cons}
 use Rattle.apex_base.specs.Members.{In, EachPair}

@@ -1,23 +1,24 @@
 -- Watches are as many as their rows, and end as these say. Callers want `watches_decided`.
-use Rattle.std.proofs.Common.{◌≡◌, ◌≢◌, ℕ, ◌+◌, ◌-◌, ◌*◌, ◌≤◌, Bool, true, false, cond, eqb, leb, ◌&&◌, List, [], ◌∷◌, ◌++◌, length}
-use Rattle.std.proofs.Common.{map, filter, flat_map, sum, Option, Some, None, sym, ap, subst, ◌∙◌, refl, inl, inr, arith, Decides, is_some}
+use Rattle.std.proofs.Common.{T, ◌≡◌, ◌≢◌, ℕ, ◌-◌, ◌*◌, ◌≤◌, Bool, true, false, cond, eqb, List, [], ◌∷◌, length}
+use Rattle.std.proofs.Common.{map, filter, flat_map, Option, Some, None, sym, ap, subst, ◌∙◌, refl, inl, inr, arith, Decides, is_some}
 use Rattle.std.specs.Ordering.{nat_cmp}
 use Rattle.std.specs.Cmp.Lexicographic.{slice_cmp}
 use Rattle.std.specs.FinMap as fin
-use Rattle.std.specs.FinMap.{is_sorted, len-entries}
+use Rattle.std.specs.FinMap.{is_sorted, entries_sorted, len-entries}
+use Rattle.std.specs.FinMap.Entries.{is_sorted-where_key}
 use Rattle.std.proofs.lemmas.Bool.{true≢false, and_parts, leb-true, le-leb, eqb-true, eq-eqb}
 use Rattle.std.specs.List.{sum_by}
 use Rattle.std.proofs.lemmas.List.{length-append, length-map}
 use Rattle.std.proofs.lemmas.List.Sums.{sum_by-cons, sum-map}
 use Rattle.apex_base.specs.declared.numbers.Scale.{Scale}
-use Rattle.apex_base.specs.Keys.{Key, WatchOf, RowMap, watch_front}
-use Rattle.apex_base.specs.Members.{In, EachPair}
+use Rattle.apex_base.specs.Keys.{WatchOf, RowMap, watch_front}
+use Rattle.apex_base.specs.Members.{In}
 use Rattle.apex_base.specs.Numbers.{scale_modules}
 use Rattle.apex_base.specs.RowSums.{has_tag}
 use Rattle.apex_base.specs.Tables.{NameMap, Table, or_empty, value_of}
 use Rattle.apex_base.proofs.Finding.{filtered}
 use Rattle.apex_base.proofs.KeyLemmas.{same_key}
-use Rattle.apex_base.proofs.MemberLemmas.{in_map, in_map_back, in_append, in_flat_map, in_flat_map_back, in_filter, each_in, in_each}
+use Rattle.apex_base.proofs.MemberLemmas.{in_map, in_map_back, in_flat_map, in_flat_map_back, in_filter}
 use Rattle.apex_base.proofs.RowMaps.{below_in, sorted_entries, entry_get, in_entries, in_keys}
 use Rattle.apex_base.proofs.SumLemmas.{length_most}
 use Rattle.apex_world.specs.Bounds.{table_len}
@@ -26,39 +27,12 @@ use Rattle.apex_world.proofs.RowWeightLemmas.{key_first, key_last}
 use Rattle.apex_world.proofs.WorldRows.{in_part}
 use Rattle.row_opening.specs.BadRows.{opened_rows}
 use Rattle.world_check.specs.LawfulParts.{HasLawfulWatches}
-use Rattle.world_check.specs.WatchRows.{is_in_time, one_less, left_after, left_after_all}
-use Rattle.world_check.proofs.KeyForms.{IsWatchRow, IsOfWatch, watch_there, watch_back}
+use Rattle.world_check.specs.WatchRows.{is_in_time, left_after_all}
+use Rattle.world_check.proofs.Differing.{Differ, append_differ, keys_differ, mapped_differ}
+use Rattle.world_check.proofs.KeyForms.{IsOfWatch, watch_there, watch_back}
 
 abbrev Row : Type 0
 Row = List ℕ × List ℕ
-
--- Lists of different keys
-
-abbrev Differ : List (List ℕ) → Type 0
-Differ ks = EachPair (λ (a b : List ℕ). a ≢ b) ks
-
-append_differ : (xs ys : List (List ℕ)) → Differ xs → Differ ys → ((a : List ℕ) → In a xs → In a ys → ⊥)
-    → Differ (xs ++ ys)
-append_differ [] ys a b apart = b
-append_differ (x ∷ xs) ys a b apart = (
-  in_each (λ (y : List ℕ). x ≢ y) (xs ++ ys) (λ y h e. elim (in_append y xs ys h) [
-    | inl i ↦ each_in (λ (y : List ℕ). x ≢ y) xs a.0 y i e
-    | inr i ↦ apart y (inl e) i
-  ]),
-  append_differ xs ys a.1 b (λ y h i. apart y (inr h) i),
-)
-
--- keys of entries in order differ, also where each is put into another form
-mapped_differ : {X : Type 0} (f : List ℕ → List ℕ) → ((a b : List ℕ) → f a ≡ f b → a ≡ b) → (es : List (List ℕ × X))
-    → is_sorted (slice_cmp nat_cmp) es ≡ true → Differ (map f (map (λ (e : List ℕ × X). e.0) es))
-mapped_differ f one [] s = tt
-mapped_differ {X} f one (e ∷ es) s = (
-  in_each (λ (b : List ℕ). f e.0 ≢ b) (map f (map (λ (e : List ℕ × X). e.0) es)) (λ b h same.
-      let (k, i, is) = in_map_back f b (map (λ (e : List ℕ × X). e.0) es) h in
-      let (g, j, was) = in_map_back (λ (e : List ℕ × X). e.0) k es i in
-      below_in e.0 es g (and_parts _ _ s).0 j (one e.0 k (same ∙ sym is) ∙ sym was)),
-  mapped_differ f one es (and_parts _ _ s).1,
-)
 
 -- Keys of watches
 
@@ -72,12 +46,13 @@ one_key : (a b c d : List ℕ) → watch_front a b ≡ watch_front c d → (a �
 one_key a b c d e =
     let same = same_key (WatchOf a b) (WatchOf c d) tt tt e in (ap key_first same, ap key_last same)
 
-keys_differ : (es : List (List ℕ × NameMap ℕ)) → is_sorted (slice_cmp nat_cmp) es ≡ true → Differ (keys_of es)
-keys_differ [] s = tt
-keys_differ (e ∷ es) s =
+watch_keys_differ : (es : List (List ℕ × NameMap ℕ)) → is_sorted (slice_cmp nat_cmp) es ≡ true → Differ (keys_of es)
+watch_keys_differ [] s = tt
+watch_keys_differ (e ∷ es) s =
     append_differ (part_keys e) (keys_of es)
-    (mapped_differ (watch_front e.0) (λ a b f. (one_key e.0 a e.0 b f).1) (fin.entries e.1) (sorted_entries e.1))
-    (keys_differ es (and_parts _ _ s).1) (λ k h i.
+    (mapped_differ (watch_front e.0) (fin.keys e.1) (keys_differ (fin.entries e.1) (sorted_entries e.1))
+    (λ a b h i f. (one_key e.0 a e.0 b f).1))
+    (watch_keys_differ es (and_parts _ _ s).1) (λ k h i.
     let (a, j, is) = in_map_back (watch_front e.0) k (fin.keys e.1) h in
     let (f, l, n) = in_flat_map_back part_keys k es i in
     let (b, o, was) = in_map_back (watch_front f.0) k (fin.keys f.1) n in
@@ -161,21 +136,9 @@ rows_decided (row ∷ rows) left =
     step_decided (is_watch row) (is_in_time (end_of row.1)) (eqb left 0) left row rows refl refl refl
     (λ n. rows_decided rows n)
 
-row_key_if : (b : Bool) (e : Row) (es : List Row) → is_sorted (slice_cmp nat_cmp) (e ∷ es) ≡ true
-    → Differ (map (λ (row : Row). row.0) (watch_rows es))
-    → Differ (map (λ (row : Row). row.0) (cond b (e ∷ watch_rows es) (watch_rows es)))
-row_key_if false e es s more = more
-row_key_if true e es s more = (
-  in_each (λ (b : List ℕ). e.0 ≢ b) (map (λ (row : Row). row.0) (watch_rows es)) (λ b h same.
-      let (row, i, is) = in_map_back (λ (row : Row). row.0) b (watch_rows es) h in
-      below_in e.0 es row (and_parts _ _ s).0 (in_filter is_watch row es i).0 (same ∙ sym is)),
-  more,
-)
-
-row_keys_differ : (es : List Row) → is_sorted (slice_cmp nat_cmp) es ≡ true
-    → Differ (map (λ (row : Row). row.0) (watch_rows es))
-row_keys_differ [] s = tt
-row_keys_differ (e ∷ es) s = row_key_if (is_watch e) e es s (row_keys_differ es (and_parts _ _ s).1)
+is_T : (b : Bool) → T b → b ≡ true
+is_T true t = refl
+is_T false t = absurd t
 
 module _ (m : RowMap) (scale : Scale) (right : opened_rows m scale ≡ m) where
   abbrev t : Table ℕ
@@ -203,7 +166,7 @@ module _ (m : RowMap) (scale : Scale) (right : opened_rows m scale ≡ m) where
       let there = in_entries m (watch_front e.0 f.0) v row.there in
       subst (λ (k : List ℕ). In k row_keys) key
       (in_map (λ (row : Row). row.0) (watch_front e.0 f.0, v) (watch_rows (fin.entries m))
-      (filtered is_watch (watch_front e.0 f.0, v) (fin.entries m) there refl))
+      (filtered is_watch (watch_front e.0 f.0, v) (fin.entries m) there (refl {a = true})))
 
   key_back : (k : List ℕ) → In k row_keys → In k (keys_of (fin.entries t))
   key_back k h =
@@ -216,12 +179,15 @@ module _ (m : RowMap) (scale : Scale) (right : opened_rows m scale ≡ m) where
       (in_entries t of.observer p e)
       (in_map (watch_front of.observer) of.name (fin.keys p) (in_keys p of.name of.end f)))
 
+  watch_order : is_sorted (slice_cmp nat_cmp) (watch_rows (fin.entries m)) ≡ true
+  watch_order = is_T _ (is_sorted-where_key (slice_cmp nat_cmp) (has_tag 9) (fin.entries m) (entries_sorted m))
+
   -- watches are as many as their rows
   as_many : table_len t ≡ length (watch_rows (fin.entries m))
   as_many =
-      let most = length_most (keys_of (fin.entries t)) row_keys (keys_differ (fin.entries t) (sorted_entries t))
+      let most = length_most (keys_of (fin.entries t)) row_keys (watch_keys_differ (fin.entries t) (sorted_entries t))
       key_there in
-      let least = length_most row_keys (keys_of (fin.entries t)) (row_keys_differ (fin.entries m) (sorted_entries m))
+      let least = length_most row_keys (keys_of (fin.entries t)) (keys_differ (watch_rows (fin.entries m)) watch_order)
       key_back in
       let a = keys_length (fin.entries t) in
       let c = sum-map part_len (fin.entries t) in
@@ -232,7 +198,7 @@ module _ (m : RowMap) (scale : Scale) (right : opened_rows m scale ≡ m) where
       → end ≤ 18014398509481982
   ends_forth each observer name end e =
       let (v, row) = watch_there m observer name end e in
-      let time = each (watch_front observer name, v) (in_entries m (watch_front observer name) v row.there) refl in
+      let time = each (watch_front observer name, v) (in_entries m (watch_front observer name) v row.there) (refl {a = true}) in
       leb-true end 18014398509481982 (ap is_in_time (sym row.read) ∙ time)
 
   ends_back : ((observer name : List ℕ) (end : ℕ) → value_of t observer name ≡ Some end → end ≤ 18014398509481982)

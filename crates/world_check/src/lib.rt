@@ -4,6 +4,7 @@
 mod check;
 mod counts;
 mod data;
+mod fronts;
 mod modules;
 mod watches;
 

@@ -1,4 +1,4 @@
-use Rattle.std.proofs.Common.{ℕ, ◌≤◌, ◌≡◌, Bool, Decides, sym, subst, ◌∙◌}
+use Rattle.std.proofs.Common.{ℕ, ◌≤◌, ◌≡◌, Bool, Decides, sym, subst}
 use Rattle.world_check.specs.DataRows.{counted, same_boot}
 use Rattle.world_check.specs.Runs.{are_light, key_weight}
 use Rattle.world_check.proofs.BootCounts.{few_decided}
