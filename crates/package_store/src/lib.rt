@@ -18,5 +18,5 @@ pub use held::{HeldByName, held_by_name, target_of_name};
 pub use laws::{rows_are_those_shown, settled_by_key};
 pub use placing::put;
 pub use reading::module_of;
-pub use settling::settle;
+pub use settling::{settle, settle_held};
 pub use weight::kept_weight;
