@@ -5,6 +5,7 @@ ghost use Rattle.std.specs.List.Sorted.{IsStrictlySortedBy};
 ghost use Rattle.std.specs.Ordering.{nat_cmp};
 ghost use Rattle.row_codec.specs.Batch.{keys_of};
 ghost use Rattle.row_codec.specs.declared.batch.Row.{Row};
+ghost use Rattle.package_store.specs.Latest.{AreHeld};
 ghost use Rattle.package_store.specs.Settled.{HaveParts};
 ghost use Rattle.apex_world.specs.Invariance.{IsOrderOf};
 ghost use Rattle.apex_world.specs.World.{World};
@@ -16,7 +17,7 @@ use crate::choosing::Selection;
 use crate::windows::{boots_value, note_boot};
 use apex_base::{Bytes, Listed, Millis, Mounter, Pick, Record};
 use apex_world::{BootOrder, BootReply};
-use package_store::{rows_are_those_shown, settle, settled_by_key};
+use package_store::{HeldByName, held_by_name, rows_are_those_shown, settle_held, settled_by_key};
 use row_codec::Row;
 use row_map::Rows;
 use row_opening::{opened_boots, opened_sessions};
@@ -60,8 +61,9 @@ pub fn judge_boot<M: Mounter>(
     };
     let mut noted = boot_noted(alloc, number, &moments)?;
     boot_sessions(alloc, &mut sessions, &selection, &mut noted)?;
-    let active = selection.choose(alloc, &sessions)?;
-    let batch = with_settled(alloc, noted.rows, rows, &sessions)?;
+    let held = held_by_name(alloc, &sessions)?;
+    let active = selection.choose(alloc, &held)?;
+    let batch = with_settled(alloc, noted.rows, rows, &sessions, &held)?;
     settled_by_key();
     let told = active.to_vec(alloc)?;
     Ok(JudgedBoot {
@@ -99,12 +101,14 @@ fn with_settled(
     noted: Vec<Row>,
     rows: &Rows,
     sessions: &[Record],
+    held: &HeldByName,
 ) -> Result<Vec<Row>, AllocError>
-    requires { HaveParts sessions.now }
+    requires parts { HaveParts sessions.now }
+    requires held { AreHeld sessions.now held.now }
     ensures { IfOk result (λ batch. (settled : List Row) × ((batch.items ≡ noted.items ++ settled)
         × IsSettling rows.now sessions.now settled)) }
 {
-    let mut settled = settle(alloc, rows.by_key(), sessions)?;
+    let mut settled = settle_held(alloc, rows.by_key(), sessions, held)?;
     rows_are_those_shown();
     let mut batch = noted;
     batch.append(&mut settled)?;

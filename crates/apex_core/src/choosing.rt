@@ -19,7 +19,7 @@ use apex_base::{
     Case, Cause, Mounter, Name, Part, Pick, Place, Record, SessionId, Target, Version,
 };
 use apex_world::{BootOrder, Image, Package};
-use package_store::{HeldByName, held_by_name, target_of_name};
+use package_store::{HeldByName, target_of_name};
 use row_map::Rows;
 use std::alloc::{AllocError, Global};
 
@@ -170,15 +170,14 @@ impl<'a, M: Mounter> Selection<'a, M> {
     }
 
     /// What is chosen for each name of the image, ascending by name.
-    pub(crate) fn choose(&self, alloc: Global, sessions: &[Record]) -> Result<Vec<Pick>, AllocError>
-        requires { HaveParts sessions.now }
-        ensures { IfOk result (λ picks. picks.items ≡ chosen_in (M.mounting self.now.mounter.now)
-            self.now.rows.now sessions.now self.now.order.now.image.modules) }
+    pub(crate) fn choose(&self, alloc: Global, held: &HeldByName) -> Result<Vec<Pick>, AllocError>
+        requires { (sessions : List Record) × (HaveParts sessions × AreHeld sessions held.now) }
+        ensures { (sessions : List Record) → AreHeld sessions held.now → IfOk result (λ picks. picks.items
+            ≡ chosen_in (M.mounting self.now.mounter.now) self.now.rows.now sessions self.now.order.now.image.modules) }
     {
-        let held = held_by_name(alloc, sessions)?;
         let mut picks = Vec::new(alloc);
         for m in self.image().modules.as_slice() {
-            let pick = self.pick(alloc, &held, m)?;
+            let pick = self.pick(alloc, held, m)?;
             put_pick(&mut picks, pick)?;
         }
         Ok(picks)

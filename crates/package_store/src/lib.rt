@@ -19,5 +19,5 @@ pub use kept::KeptParts;
 pub use laws::{rows_are_those_shown, settled_by_key};
 pub use placing::put;
 pub use reading::module_of;
-pub use settling::settle;
+pub use settling::{settle, settle_held};
 pub use weight::kept_weight;

@@ -9,11 +9,12 @@ ghost use Rattle.std.specs.Str.{bytes_eq};
 ghost use Rattle.row_codec.specs.Batch.{keys_of};
 ghost use Rattle.row_map.specs.Rows.{changed, rows_of};
 ghost use Rattle.package_store.specs.Keeping.{stays_among};
+ghost use Rattle.package_store.specs.Latest.{AreHeld};
 ghost use Rattle.package_store.specs.Named.{note_row, resettled};
 ghost use Rattle.package_store.specs.Settled.{settled_value, IsChange, HaveParts};
 
 use crate::changes::Changes;
-use crate::held::held_by_name;
+use crate::held::{HeldByName, held_by_name};
 use crate::kept::KeptParts;
 use crate::key::{ACTIVE, BACKUP, FILE};
 use crate::naming::name_changes;
@@ -41,8 +42,30 @@ pub fn settle(
     ensures ascending { IfOk result (λ changes. IsStrictlySortedBy (slice_cmp nat_cmp) (keys_of changes.items)) }
 {
     let held = held_by_name(alloc, records)?;
-    let mut changes = name_changes(alloc, records, &held)?;
-    let kept = KeptParts::of(alloc, records, &held)?;
+    settle_held(alloc, rows, records, &held)
+}
+
+/// The same, by what all names hold.
+pub fn settle_held(
+    alloc: Global,
+    rows: &BTreeMap<Vec<u8>, Bytes>,
+    records: &[Record],
+    held: &HeldByName,
+) -> Result<Vec<Row>, AllocError>
+    requires parts { HaveParts records.now }
+    requires held { AreHeld records.now held.now }
+
+    // With them each key has its settled value.
+    ensures after { IfOk result (λ changes. (key : List ℕ)
+        → fin.get (changed (rows_of rows.now.entries) changes.items) key
+        ≡ settled_value (rows_of rows.now.entries) records.now key) }
+
+    // They hold exactly what changes, and can stand in a batch.
+    ensures exact { IfOk result (λ changes. AllByRecursion (IsChange (rows_of rows.now.entries)) changes.items) }
+    ensures ascending { IfOk result (λ changes. IsStrictlySortedBy (slice_cmp nat_cmp) (keys_of changes.items)) }
+{
+    let mut changes = name_changes(alloc, records, held)?;
+    let kept = KeptParts::of(alloc, records, held)?;
     for (key, value) in rows {
         settle_row(alloc, &mut changes, &kept, key, value.as_slice())?;
     }

@@ -1,4 +1,5 @@
-use Rattle.std.proofs.Common.{◌≡◌, ◌∷◌, [], ◌++◌, ◌+◌, ℕ, List, ap, subst, ◌∙◌, flat_map, arith}
+use Rattle.std.proofs.Common.{◌≡◌, ◌∷◌, [], ◌++◌, ◌+◌, ℕ, List, ap, sym, subst, ◌∙◌, flat_map, arith}
+use Rattle.package_store.specs.Latest.{AreHeld}
 use Rattle.apex_base.specs.declared.records.Record.{Record}
 use Rattle.row_codec.specs.declared.batch.Row.{Row}
 use Rattle.apex_world.specs.declared.calls.Changed.{Changed}
@@ -25,13 +26,20 @@ boot_sessions-requires-after_bounds g c κs within =
 
 pub choose-requires-after_bounds : goal.choose-requires-after_bounds
 choose-requires-after_bounds g c κs within =
-    let (w, (s, o)) = c.requires.stored in
-    parts_left c.args.rows.now w s (g.M.Mounter.mounting c.args.mounter.now) c.args.order.now
-    (c.in_ok-boots.boots.count + 1) c.in_ok-sessions.sessions.items c.deref-2.result.now c.in_ok-sessions.ensures
-    (c.deref-2.ensures.value ∙ c.in_ok-boot_sessions.ensures.sessions)
+    let (w, (s, o)) = c.requires.stored in (
+      c.deref-2.result.now,
+      (parts_left c.args.rows.now w s (g.M.Mounter.mounting c.args.mounter.now) c.args.order.now
+          (c.in_ok-boots.boots.count + 1) c.in_ok-sessions.sessions.items c.deref-2.result.now c.in_ok-sessions.ensures
+          (c.deref-2.ensures.value ∙ c.in_ok-boot_sessions.ensures.sessions), c.in_ok-held.ensures),
+    )
 
-pub with_settled-requires : goal.with_settled-requires
-with_settled-requires g c =
+pub with_settled-requires-clause-held : goal.with_settled-requires-clause-held
+with_settled-requires-clause-held g c =
+    subst (λ (ss : List Record). AreHeld ss c.in_ok-held.held)
+    (c.deref-2.ensures.value ∙ sym c.deref-3.ensures.value) c.in_ok-held.ensures
+
+pub with_settled-requires-clause-parts : goal.with_settled-requires-clause-parts
+with_settled-requires-clause-parts g c =
     let (w, (s, o)) = c.requires.stored in
     parts_left c.args.rows.now w s (g.M.Mounter.mounting c.args.mounter.now) c.args.order.now
     (c.in_ok-boots.boots.count + 1) c.in_ok-sessions.sessions.items c.deref-3.result.now c.in_ok-sessions.ensures
@@ -69,7 +77,7 @@ judges g c =
     c.in_ok-noted.ensures.rows ∙ ap (λ (ms : List ℕ). boots_change (count + 1) ms ∷ [])
     (c.deref.ensures.value ∙ c.in_ok-boot_loop.ensures.moments) in
     let picked : c.in_ok-active.active.items ≡ chosen_in mounts kept (sessions_in mounts kept order (count + 1) before)
-    order.image.modules = c.in_ok-active.ensures
+    order.image.modules = c.in_ok-active.ensures c.deref-2.result.now c.in_ok-held.ensures
     ∙ ap (λ (ss : List Record). chosen_in mounts kept ss order.image.modules) (c.deref-2.ensures.value ∙ after) in
     let told = c.of-2.ensures ∙ c.in_ok-told.ensures.items_if_clones_equal (λ x y e. e) ∙ c.deref-4.ensures.value
     ∙ picked in

@@ -1,9 +1,12 @@
-use Rattle.std.proofs.Common.{◌≡◌, take}
+use Rattle.std.proofs.Common.{◌≡◌, List, take}
+use Rattle.apex_base.specs.declared.records.Record.{Record}
+use Rattle.package_store.specs.Latest.{AreHeld}
 use Rattle.apex_world.specs.BootByRows.{chosen_in}
 use Rattle.apex_core.proofs.choosing.Selection.choose.Given as goal
 
 -- the modules so far are chosen from
 abbrev pub invariant-loop-m : goal.invariant-loop-m
 invariant-loop-m g l =
-    let mounts = g.M.Mounter.mounting l.self.mounter.now in
-    l.picks.items ≡ chosen_in mounts l.self.rows.now l.sessions (take l.m-index l.self.order.now.image.modules)
+    (sessions : List Record) → AreHeld sessions l.held → l.picks.items
+    ≡ chosen_in (g.M.Mounter.mounting l.self.mounter.now) l.self.rows.now sessions
+    (take l.m-index l.self.order.now.image.modules)

@@ -1,6 +1,6 @@
 use Rattle.row_map.specs.Rows.{rows_of, shown}
 use Rattle.package_store.proofs.RowSteps.{Settling}
-use Rattle.package_store.proofs.settling.settle.Given as goal
+use Rattle.package_store.proofs.settling.settle_held.Given as goal
 
 -- the rows so far are settled
 abbrev pub invariant-loop-key : goal.invariant-loop-key

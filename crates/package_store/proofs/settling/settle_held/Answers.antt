@@ -13,7 +13,7 @@ use Rattle.package_store.proofs.KeptModules.{same_note}
 use Rattle.package_store.proofs.Noted.{all_made, all_change}
 use Rattle.package_store.proofs.RowNotes.{if_ok}
 use Rattle.package_store.proofs.RowSteps.{Settling, starts, row_settled, ends}
-use Rattle.package_store.proofs.settling.settle.Goals as goal
+use Rattle.package_store.proofs.settling.settle_held.Goals as goal
 
 pub loop-key-init : goal.loop-key-init
 loop-key-init c =
@@ -46,7 +46,7 @@ loop-key-preserved c =
     row_settled records rows old c.settle_row.new.changes row rest s noted
 
 -- each key has its change where the loop ends
-noted : (c : goal.After-drop-held-2) → (q : List ℕ) → fin.get c.loop-key.changes q
+noted : (c : goal.After-drop-kept-2) → (q : List ℕ) → fin.get c.loop-key.changes q
     ≡ change_to (fin.get (rows_of c.args.rows.now.entries) q)
     (settled_value (rows_of c.args.rows.now.entries) c.args.records.now q)
 noted c =
