@@ -3,6 +3,7 @@ pub mod Core
 pub mod Ending
 pub mod Judged
 pub mod Moving
+pub mod Refused
 pub mod Submitting
 pub mod Taken
 pub mod Weights
