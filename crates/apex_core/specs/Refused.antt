@@ -66,10 +66,9 @@ pub record AreBootable (m : RowMap) (scale : Scale) : Type 0 where
 -- 1. `IsLeastDifference`: they aren't the rows of the world that they open to. The tag is the least at which they differ
 
 -- 2. they are, but that world isn't lawful, or had its last boot. The tag is 0
-pub record AreUnlawful (m : RowMap) (scale : Scale) (tag : ℕ) : Type 0 where
+pub record AreUnlawful (m : RowMap) (scale : Scale) : Type 0 where
   pub right : opened_rows m scale ≡ m
   pub unlawful : ¬ (Lawful (opened m scale) × HasBootsLeft (opened m scale))
-  pub tag : tag ≡ 0
 
 -- 3. they are, and that world is lawful and has boots left, but isn't one of those built so far
 pub record AreUnbuilt (m : RowMap) (scale : Scale) (tag : ℕ) : Type 0 where
@@ -80,5 +79,5 @@ pub record AreUnbuilt (m : RowMap) (scale : Scale) (tag : ℕ) : Type 0 where
 
 abbrev pub AreRefused : RowMap → Scale → Why BadRows → Type 0
 AreRefused m scale (Fault bad) =
-    IsLeastDifference m scale bad.tag ⊎ (AreUnlawful m scale bad.tag ⊎ AreUnbuilt m scale bad.tag)
+    IsLeastDifference m scale bad.tag ⊎ (((bad.tag ≡ 0) × AreUnlawful m scale) ⊎ AreUnbuilt m scale bad.tag)
 AreRefused m scale NoMemory = Unit {0}
