@@ -1,14 +1,13 @@
 -- Which rows can be booted from. Callers want `stored_bootable`, `simple_from`, `not_refused`, `order_of` and `few_boots`.
-use Rattle.std.proofs.Common.{◌≡◌, ◌≤◌, ◌<◌, ℕ, Bool, true, false, cond, not, eqb, ◌&&◌, List, [], ◌∷◌, length}
+use Rattle.std.proofs.Common.{◌≡◌, ◌<◌, ℕ, Bool, true, false, cond, not, eqb, ltb, ◌&&◌, List, [], ◌∷◌}
 use Rattle.std.proofs.Common.{Option, Some, None, Result, Ok, Err, sym, ap, subst, ◌∙◌, refl, inl, inr, arith, Decides}
 use Rattle.std.specs.Prelude.{is_some, IfErr, IsErrAnd}
 use Rattle.std.specs.Cmp.Lexicographic.{slice_cmp}
 use Rattle.std.specs.FinMap as fin
 use Rattle.std.specs.FinMap.{len-empty}
-use Rattle.std.specs.List.{list_all}
 use Rattle.std.specs.Ordering.{nat_cmp}
 use Rattle.std.proofs.lemmas.Bool.{eqb-true}
-use Rattle.std.proofs.lemmas.Bool.Decides.{Decides-and}
+use Rattle.std.proofs.lemmas.Bool.Decides.{Decides-and, Decides-ltb}
 use Rattle.std.proofs.lemmas.List.FromFn.{length-map-range_with_len}
 use Rattle.apex_base.specs.declared.numbers.Scale.{Scale}
 use Rattle.apex_base.specs.declared.numbers.SessionId.{SessionId}
@@ -22,7 +21,6 @@ use Rattle.apex_base.specs.Commit.{rolls_back}
 use Rattle.apex_base.specs.Keys.{RowMap}
 use Rattle.apex_base.specs.Members.{In}
 use Rattle.apex_base.specs.Tables.{NameMap, Table}
-use Rattle.apex_base.specs.Windows.{last_five}
 use Rattle.apex_base.proofs.TableLemmas.{no_len}
 use Rattle.apex_world.specs.declared.calls.BootOrder.{BootOrder}
 use Rattle.apex_world.specs.Invariance.{IsOrderOf}
@@ -30,7 +28,6 @@ use Rattle.apex_world.specs.Lawful.{HasRollback, Lawful}
 use Rattle.apex_world.specs.Opened.{activated_at, era_of, opened, opened_boots, opened_contents, opened_sessions}
 use Rattle.apex_world.specs.Opened.{opened_watches}
 use Rattle.apex_world.specs.Plain.{IsPlainSession}
-use Rattle.apex_world.specs.Rows.{rows}
 use Rattle.apex_world.specs.World.{World, boots}
 use Rattle.apex_world.proofs.DecidedTests.{every}
 use Rattle.apex_world.proofs.OpenedBoots.{boots_same}
@@ -41,7 +38,7 @@ use Rattle.row_opening.specs.declared.opened.BadRows.{BadRows}
 use Rattle.row_opening.specs.BadRows.{opened_rows}
 use Rattle.row_opening.specs.WrongTags.{AreBad}
 use Rattle.apex_core.specs.Core.{IsSimple, IsStored}
-use Rattle.apex_core.specs.Refused.{AreBootable, AreRefused, AreUnbuilt, AreUnlawful, HasBootsLeft, IsAnOrder}
+use Rattle.apex_core.specs.Refused.{AreBootable, AreRefused, HasBootsLeft, IsAnOrder}
 use Rattle.apex_core.specs.Refused.{are_simple, is_childless, is_plain, unbuilt_tag}
 use Rattle.apex_core.proofs.TagRows.{are_of, data_rows, is_some_table, watch_rows}
 
@@ -147,6 +144,17 @@ boots_seen : (m : RowMap) (scale : Scale) (n : ℕ) (moments : List ℕ) → (n,
     → boots (opened m scale) ≡ n
 boots_seen m scale n moments e = boots_opened m scale ∙ ap (λ (x : ℕ × List ℕ). x.0) (sym e)
 
+-- a lawful world may boot exactly if it has boots left
+pub left_decides : (m : RowMap) (scale : Scale) (lawful left : Bool) (n : ℕ) (moments : List ℕ)
+    → Decides lawful (Lawful (opened m scale)) → lawful ≡ true → left ≡ ltb n 4000000000
+    → (n, moments) ≡ opened_boots m → Decides left (Lawful (opened m scale) × HasBootsLeft (opened m scale))
+left_decides m scale lawful left n moments d is e f =
+    let few : Decides left (n < 4000000000) =
+    subst (λ (b : Bool). Decides b (n < 4000000000)) (sym e) (Decides-ltb n 4000000000) in
+    let has : Decides left (boots (opened m scale) < 4000000000) =
+    subst (λ (k : ℕ). Decides left (k < 4000000000)) (sym (boots_seen m scale n moments f)) few in
+    (λ g. (d.0 is, has.0 g), λ both. has.1 both.1)
+
 -- Why rows are refused
 
 pub foreign_refused : (m : RowMap) (scale : Scale) (why : Why BadRows) → AreBad m why → AreRefused m scale why
@@ -154,42 +162,25 @@ foreign_refused m scale (Fault bad) h = inl (h scale)
 foreign_refused m scale NoMemory h = tt
 
 pub unlawful_refused : (m : RowMap) (scale : Scale) (why : Why BadRows) → why ≡ Fault (record { tag = 0 })
-    → opened_rows m scale ≡ m → (Lawful (opened m scale) → ⊥) → AreRefused m scale why
+    → opened_rows m scale ≡ m → (Lawful (opened m scale) × HasBootsLeft (opened m scale) → ⊥) → AreRefused m scale why
 unlawful_refused m scale why e right d =
-    subst (AreRefused m scale) (sym e)
-    (inr (inl (refl, record { right = right; unlawful = λ both. d both.0 })))
-
-pub last_refused : (m : RowMap) (scale : Scale) (why : Why BadRows) → why ≡ Fault (record { tag = 0 })
-    → opened_rows m scale ≡ m → (n : ℕ) (moments : List ℕ) → (n, moments) ≡ opened_boots m → 4000000000 ≤ n
-    → AreRefused m scale why
-last_refused m scale why e right n moments f many =
-    let seen = boots_seen m scale n moments f in
-    subst (AreRefused m scale) (sym e) (inr (inl (refl, record {
-      right = right;
-      unlawful = λ both. let left : boots (opened m scale) < 4000000000 = both.1 in
-          absurd (omega (arith, left, seen, many));
-    })))
+    subst (AreRefused m scale) (sym e) (inr (inl (refl, record { right = right; unlawful = d })))
 
 pub unbuilt_refused : (m : RowMap) (scale : Scale) (why : Why BadRows) (tag : ℕ) → why ≡ Fault (record { tag = tag })
-    → opened_rows m scale ≡ m → Lawful (opened m scale) → (n : ℕ) (moments : List ℕ) → (n, moments) ≡ opened_boots m
-    → n < 4000000000 → Some tag ≡ unbuilt_tag (opened m scale) → AreRefused m scale why
-unbuilt_refused m scale why tag e right law n moments f few is =
-    let seen = boots_seen m scale n moments f in
-    let left : boots (opened m scale) < 4000000000 = omega (arith, seen, few) in
+    → opened_rows m scale ≡ m → Lawful (opened m scale) × HasBootsLeft (opened m scale)
+    → Some tag ≡ unbuilt_tag (opened m scale) → AreRefused m scale why
+unbuilt_refused m scale why tag e right may is =
     subst (AreRefused m scale) (sym e)
-    (inr (inr (record { right = right; lawful = law; left = left; unbuilt = sym is })))
+    (inr (inr (record { right = right; lawful = may.0; left = may.1; unbuilt = sym is })))
 
 -- and why they are not
-pub none_refused : (m : RowMap) (scale : Scale) → opened_rows m scale ≡ m → Lawful (opened m scale)
-    → (n : ℕ) (moments : List ℕ) → (n, moments) ≡ opened_boots m → n < 4000000000
-    → None ≡ unbuilt_tag (opened m scale) → AreBootable m scale
-none_refused m scale right law n moments f few is =
-    let seen = boots_seen m scale n moments f in
-    let left : boots (opened m scale) < 4000000000 = omega (arith, seen, few) in
-    record {
-      stored = record { lawful = law; simple = simple_from (opened m scale) law refl (sym is); stored = sym right };
-      left = left;
-    }
+pub none_refused : (m : RowMap) (scale : Scale) → opened_rows m scale ≡ m
+    → Lawful (opened m scale) × HasBootsLeft (opened m scale) → None ≡ unbuilt_tag (opened m scale)
+    → AreBootable m scale
+none_refused m scale right may is = record {
+  stored = record { lawful = may.0; simple = simple_from (opened m scale) may.0 refl (sym is); stored = sym right };
+  left = may.1;
+}
 
 -- Rows of a world open to one that can be booted
 

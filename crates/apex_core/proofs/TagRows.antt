@@ -12,7 +12,6 @@ use Rattle.std.specs.Ordering.{nat_cmp}
 use Rattle.std.proofs.lemmas.Bool.{eqb-true}
 use Rattle.apex_base.specs.Keys.{Key, Boots, RecordOf, ActiveOf, BackupOf, FileOf, DataOf, SnapshotOf, PreRestoreOf}
 use Rattle.apex_base.specs.Keys.{WatchOf, RowMap, key_text}
-use Rattle.apex_base.specs.Members.{In}
 use Rattle.apex_base.specs.Reading.{eight_text}
 use Rattle.apex_base.specs.RowSums.{has_tag}
 use Rattle.apex_base.specs.Tables.{NameMap, Table, or_empty, value_of}

@@ -1,6 +1,6 @@
 use Rattle.std.proofs.Common.{sym, ◌∙◌}
 use Rattle.apex_core.specs.Refused.{are_simple}
-use Rattle.apex_core.proofs.Bootable.{tag_by_rows, tag_two, tag_six, tag_nine, tag_none}
+use Rattle.apex_core.proofs.Bootable.{tag_by_rows, tag_six, tag_nine, tag_none}
 use Rattle.apex_core.proofs.TagRows.{are_of}
 use Rattle.apex_core.proofs.opening.unbuilt_tag.Goals as goal
 
