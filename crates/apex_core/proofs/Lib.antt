@@ -8,6 +8,7 @@ pub mod BeforeGoes
 pub mod BootBatches
 pub mod BootJudged
 pub mod BootTables
+pub mod Bootable
 pub mod Childless
 pub mod Entered
 pub mod EnteredRows
@@ -28,6 +29,7 @@ pub mod Simple
 pub mod SuccessBatches
 pub mod SuccessStates
 pub mod Successes
+pub mod TagRows
 pub mod TakenBatches
 pub mod TakenFiles
 pub mod TurnedSessions

@@ -4,6 +4,7 @@ pub mod Ending
 pub mod Judged
 pub mod Moving
 pub mod Prepared
+pub mod Refused
 pub mod Submitting
 pub mod Taken
 pub mod Unfinished

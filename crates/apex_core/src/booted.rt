@@ -8,6 +8,7 @@ ghost use Rattle.row_codec.specs.declared.batch.Row.{Row};
 ghost use Rattle.package_store.specs.Latest.{AreHeld};
 ghost use Rattle.package_store.specs.Settled.{HaveParts};
 ghost use Rattle.apex_world.specs.Invariance.{IsOrderOf};
+ghost use Rattle.apex_world.specs.Opened.{opened_boots, opened_sessions};
 ghost use Rattle.apex_world.specs.World.{World};
 ghost use Rattle.apex_core.specs.Booted.{boots_change, IsBooted, IsSettling};
 ghost use Rattle.apex_core.specs.Core.{IsStored};
@@ -20,7 +21,7 @@ use apex_world::{BootOrder, BootReply};
 use package_store::{HeldByName, held_by_name, rows_are_those_shown, settle_held, settled_by_key};
 use row_codec::Row;
 use row_map::Rows;
-use row_opening::{opened_boots, opened_sessions};
+use row_opening::OpenedRows;
 use std::alloc::{AllocError, Global};
 
 /// The reply to a boot, the rows that it changes, and the sessions and the active set after it.
@@ -32,15 +33,19 @@ pub struct JudgedBoot {
     pub active: Vec<Pick>,
 }
 
-/// What a boot of the device is to do whose rows these are. Nothing is changed.
+/// What a boot of the device is to do whose rows these are. `opened` is what they open to. Nothing is changed. Fails
+/// only if memory runs out.
 pub fn judge_boot<M: Mounter>(
     alloc: Global,
     rows: &Rows,
+    opened: OpenedRows,
     order: &BootOrder,
     mounter: &M,
 ) -> Result<JudgedBoot, AllocError>
     requires stored { (w : World) × (IsStored rows.now w × IsOrderOf w order.now) }
     requires alone { order.now.observers ≡ [] }
+    requires sessions { opened.sessions.items ≡ opened_sessions rows.now }
+    requires boots { (opened.boots.count, opened.boots.moments.items) ≡ opened_boots rows.now }
     ensures judged { (w : World) → IsStored rows.now w → IsOrderOf w order.now
         → IfOk result (λ judged. IsBooted judged rows.now w order.now (M.mounting mounter.now)) }
 
@@ -48,8 +53,8 @@ pub fn judge_boot<M: Mounter>(
     ensures ascending { IfOk result
         (λ judged. IsStrictlySortedBy (slice_cmp nat_cmp) (keys_of judged.rows.items)) }
 {
-    let boots = opened_boots(alloc, rows)?;
-    let mut sessions = opened_sessions(alloc, rows)?;
+    let boots = opened.boots;
+    let mut sessions = opened.sessions;
     let number = boots.count + 1;
     let mut moments = boots.moments;
     let boot_loop = note_boot(alloc, &mut moments, order.time)?;

@@ -4,38 +4,52 @@ ghost use Rattle.apex_world.specs.Limits.{units_of};
 
 use crate::booted::judge_boot;
 use crate::manager::{Core, kind_units};
+use crate::opening::{BootWhy, open_bootable};
 use crate::tables::Tables;
 use crate::unfinished::unfinished_of;
 use apex_base::{Listed, Mounter, Pick, Record};
 use apex_world::{ActiveSet, BootOrder, BootReply};
 use package_store::{kept_weight, rows_are_those_shown};
 use row_map::Rows;
-use std::alloc::{AllocError, Global};
+use std::alloc::Global;
 
 impl Core {
-    ghost use Rattle.std.specs.Prelude.{◌≡◌, [], IfOk};
+    ghost use Rattle.std.specs.Prelude.{◌≡◌, ◌<◌, [], None, IfOk, OnOk, IfErr};
+    ghost use Rattle.std.specs.FinMap as fin;
+    ghost use Rattle.apex_base.specs.declared.why.Why.TheVariants.{NoMemory};
     ghost use Rattle.apex_world.specs.Boot.{boot_reply, boot_world};
     ghost use Rattle.apex_world.specs.Invariance.{IsOrderOf};
     ghost use Rattle.apex_world.specs.World.{World};
     ghost use Rattle.apex_core.specs.Core.{IsStored, StandsFor};
+    ghost use Rattle.apex_core.specs.Refused.{AreBootable, AreRefused, HasBootsLeft, IsAnOrder};
 
-    /// Boots a device whose rows these are, with an order that registers no observer. So far the rows have to be those of
-    /// a lawful world of plain sessions without children, as an empty store's are, and those that a core leaves. Fails
-    /// only if memory runs out.
+    /// Boots a device from its rows, which may be anybody's, with an order that registers no observer. `Fault` with a tag
+    /// comes exactly if they aren't rows to boot from (`AreRefused`): the least tag at which they aren't the rows of the
+    /// world that they open to; 0 if that world isn't lawful, or had 4000000000 boots; or the least tag of rows that no
+    /// world built so far has. The rows are gone then. `NoMemory` may come at any time.
     pub fn boot<M: Mounter>(
         alloc: Global,
         rows: Rows,
         order: &BootOrder,
         mounter: &M,
-    ) -> Result<(Core, BootReply), AllocError>
-        requires stored { (w : World) × (IsStored rows w × IsOrderOf w order.now) }
+    ) -> Result<(Core, BootReply), BootWhy>
+        // No row has the empty key, as none in a batch has.
+        requires keyed { fin.get rows [] ≡ None }
+        requires order { IsAnOrder order.now }
         requires alone { order.now.observers ≡ [] }
         ensures reply { (w : World) → IsStored rows w → IsOrderOf w order.now
             → IfOk result (λ up. up.1 ≡ boot_reply w order.now (M.mounting mounter.now)) }
         ensures stands { (w : World) → IsStored rows w → IsOrderOf w order.now
             → IfOk result (λ up. StandsFor up.0.rows up.0.tables (boot_world w order.now (M.mounting mounter.now))) }
+        ensures good { OnOk result (AreBootable rows order.now.scale) }
+        ensures bad { IfErr result (AreRefused rows order.now.scale) }
+
+        // Rows of a world that boots and calls lead to so far are never refused.
+        ensures welcome { (w : World) → IsStored rows w → IsOrderOf w order.now → HasBootsLeft w
+            → IfErr result (λ why. why ≡ NoMemory) }
     {
-        let judged = judge_boot(alloc, &rows, order, mounter)?;
+        let opened = open_bootable(alloc, &rows, order.scale)?;
+        let judged = judge_boot(alloc, &rows, opened, order, mounter)?;
         let image = order.image.share()?;
         let mut after = rows;
         after.change_all(judged.rows)?;

@@ -16,20 +16,20 @@ use Rattle.apex_core.proofs.booted.judge_boot.Goals as goal
 pub overflow_add-number : goal.overflow_add-number
 overflow_add-number g c =
     let (w, (s, o)) = c.requires.stored in
-    let low = small_number c.args.rows.now w s c.args.order.now o _ c.in_ok-boots.ensures in
+    let low = small_number c.args.rows.now w s c.args.order.now o _ c.requires.boots in
     omega (arith, low)
 
 pub boot_sessions-requires-after_bounds : goal.boot_sessions-requires-after_bounds
 boot_sessions-requires-after_bounds g c κs within =
     let (w, (s, o)) = c.requires.stored in
-    rooms c.args.rows.now w s c.in_ok-sessions.sessions.items c.in_ok-sessions.ensures
+    rooms c.args.rows.now w s c.args.opened.sessions.items c.requires.sessions
 
 pub choose-requires-after_bounds : goal.choose-requires-after_bounds
 choose-requires-after_bounds g c κs within =
     let (w, (s, o)) = c.requires.stored in (
       c.deref-2.result.now,
       (parts_left c.args.rows.now w s (g.M.Mounter.mounting c.args.mounter.now) c.args.order.now
-          (c.in_ok-boots.boots.count + 1) c.in_ok-sessions.sessions.items c.deref-2.result.now c.in_ok-sessions.ensures
+          (c.args.opened.boots.count + 1) c.args.opened.sessions.items c.deref-2.result.now c.requires.sessions
           (c.deref-2.ensures.value ∙ c.in_ok-boot_sessions.ensures.sessions), c.in_ok-held.ensures),
     )
 
@@ -42,14 +42,14 @@ pub with_settled-requires-clause-parts : goal.with_settled-requires-clause-parts
 with_settled-requires-clause-parts g c =
     let (w, (s, o)) = c.requires.stored in
     parts_left c.args.rows.now w s (g.M.Mounter.mounting c.args.mounter.now) c.args.order.now
-    (c.in_ok-boots.boots.count + 1) c.in_ok-sessions.sessions.items c.deref-3.result.now c.in_ok-sessions.ensures
+    (c.args.opened.boots.count + 1) c.args.opened.sessions.items c.deref-3.result.now c.requires.sessions
     (c.deref-3.ensures.value ∙ c.in_ok-boot_sessions.ensures.sessions)
 
 -- what is judged
 abbrev judged : (g : given.Over) → goal.After-drop-moments-2 g → JudgedBoot
 judged g c = record {
   reply = record {
-    number = c.in_ok-boots.boots.count + 1;
+    number = c.args.opened.boots.count + 1;
     changes = c.of.result;
     active = c.of-2.result;
     boot_loop = c.in_ok-boot_loop.boot_loop;
@@ -60,15 +60,15 @@ judged g c = record {
 }
 
 judges : (g : given.Over) (c : goal.After-drop-moments-2 g)
-    → (settled : List Row) × Judges c.args.rows.now (c.in_ok-boots.boots.count, c.in_ok-boots.boots.moments.items)
-    c.in_ok-sessions.sessions.items c.args.order.now (g.M.Mounter.mounting c.args.mounter.now) settled (judged g c)
+    → (settled : List Row) × Judges c.args.rows.now (c.args.opened.boots.count, c.args.opened.boots.moments.items)
+    c.args.opened.sessions.items c.args.order.now (g.M.Mounter.mounting c.args.mounter.now) settled (judged g c)
 judges g c =
     let mounts = g.M.Mounter.mounting c.args.mounter.now in
     let kept = c.args.rows.now in
     let order = c.args.order.now in
-    let count = c.in_ok-boots.boots.count in
-    let recent = c.in_ok-boots.boots.moments.items in
-    let before = c.in_ok-sessions.sessions.items in
+    let count = c.args.opened.boots.count in
+    let recent = c.args.opened.boots.moments.items in
+    let before = c.args.opened.sessions.items in
     let after : c.boot_sessions.new.sessions.items ≡ sessions_in mounts kept order (count + 1) before =
     c.in_ok-boot_sessions.ensures.sessions in
     let (settled, (are, settling)) = c.in_ok-batch.ensures in
@@ -104,11 +104,11 @@ pub returns-clause-judged : goal.returns-clause-judged
 returns-clause-judged g c w s o =
     let (settled, j) = judges g c in
     booted_is c.args.rows.now w s c.args.order.now o c.requires.alone (g.M.Mounter.mounting c.args.mounter.now)
-    c.settled_by_key.ensures _ _ settled (judged g c) c.in_ok-boots.ensures c.in_ok-sessions.ensures j
+    c.settled_by_key.ensures _ _ settled (judged g c) c.requires.boots c.requires.sessions j
 
 pub returns-clause-ascending : goal.returns-clause-ascending
 returns-clause-ascending g c =
     let (w, (s, o)) = c.requires.stored in
     let (settled, j) = judges g c in
     batch_ascends c.args.rows.now w s c.args.order.now (g.M.Mounter.mounting c.args.mounter.now) _ _ settled
-    (judged g c) c.in_ok-sessions.ensures j
+    (judged g c) c.requires.sessions j
