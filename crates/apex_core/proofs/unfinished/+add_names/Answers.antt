@@ -9,7 +9,6 @@ use Rattle.apex_base.specs.declared.records.Record.{Record}
 use Rattle.apex_core.specs.Unfinished.{ByName, under, has_name, without, is_session, HaveRoom, unfinished_with}
 use Rattle.apex_core.proofs.NamedSessions.{room_put, more_rooms, entered, added_first, added_again, given_up, kept_on, rest_is}
 use Rattle.apex_core.proofs.NamedSessions.{found_more, must_be, then_on, none_there, Puts, test}
-
 use Rattle.apex_core.proofs.unfinished.+add_names.Goals.{then-is_none+in_ok-insert, else-is_none}
 use Rattle.apex_core.proofs.unfinished.+add_names.Goals as goal
 
