@@ -6,6 +6,8 @@ mod counts;
 mod data;
 mod modules;
 #[cfg(test)]
+mod modules_tests;
+#[cfg(test)]
 mod tests;
 mod watches;
 

@@ -1,6 +1,8 @@
 //! Rows of files: whether each module that is kept is there, is sound, and says its part's name and version.
-ghost use Rattle.std.specs.Prelude.{◌≡◌, ◌<◌, [], Decides, IfOk, true, false, option_map};
+ghost use Rattle.std.specs.Prelude.{◌≡◌, ◌<◌, ℕ, [], Decides, IfOk, true, false, option_map};
 ghost use Rattle.std.specs.List.{AllByRecursion};
+ghost use Rattle.apex_base.specs.declared.numbers.SessionId.{SessionId as Id};
+ghost use Rattle.apex_base.specs.Held.{is_target, kept};
 ghost use Rattle.apex_base.specs.Keys.{file_front};
 ghost use Rattle.apex_base.specs.Modules.{IsModule};
 ghost use Rattle.apex_base.specs.Text.{path_of};
@@ -13,7 +15,7 @@ ghost use Rattle.package_store.specs.Settled.{HasPart, HaveParts};
 ghost use Rattle.session_check.specs.LawfulSessions.{AreLawfulSessions};
 ghost use Rattle.world_check.specs.FilesRead.{with_file, IsTooMuch};
 ghost use Rattle.world_check.specs.LawfulParts.{HasLawfulModules};
-ghost use Rattle.world_check.specs.RightModules.{if_module, less, less_module, less_target, less_parts, less_sessions};
+ghost use Rattle.world_check.specs.RightModules.{if_module, less_module, less_target, less_parts, less_sessions};
 
 use apex_base::{FilePath, Module, Name, Part, PutWhy, Record, Scale, SessionId, Target, Version};
 use apex_manifest::ManifestWhy;
@@ -37,10 +39,18 @@ pub(crate) fn are_lawful_modules(
     requires lawful { AreLawfulSessions (opened_boots rows.now).0 sessions.now }
     ensures { IfOk result (λ lawful. Decides lawful (HasLawfulModules (opened rows.now scale))) }
 {
-    let held = held_by_name(alloc, sessions)?;
-    let kept = KeptParts::of(alloc, sessions, &held)?;
+    let kept = kept_parts(alloc, sessions)?;
     let left = take_sessions(alloc, rows, &kept, sessions, scale.file_weight())?;
     Ok(left.is_some())
+}
+
+/// The modules that the sessions keep.
+fn kept_parts(alloc: Global, sessions: &[Record]) -> Result<KeptParts, AllocError>
+    ensures { IfOk result (λ parts. (session : Id) (part : ℕ)
+        → has_part parts session part ≡ is_target (kept sessions.now) session part) }
+{
+    let held = held_by_name(alloc, sessions)?;
+    KeptParts::of(alloc, sessions, &held)
 }
 
 /// What is left of a weight once the modules that are kept are taken, or None if one isn't right, or they weigh more.
@@ -128,19 +138,9 @@ fn less_module(
     ensures { IfOk result (λ rest. rest ≡ less_module name.now version left content.now) }
 {
     if says(alloc, content, name, version)? {
-        Ok(less(content.weight(), left))
+        Ok(left.checked_sub(content.weight()))
     } else {
         Ok(None)
-    }
-}
-
-fn less(weight: u64, left: u64) -> Option<u64>
-    ensures { result ≡ less weight left }
-{
-    if weight <= left {
-        Some(left - weight)
-    } else {
-        None
     }
 }
 
