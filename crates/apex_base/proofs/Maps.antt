@@ -28,19 +28,21 @@ use Rattle.apex_base.specs.Text.{is_path}
 pub same_files : (m n : FileMap) → ((q : List ℕ) → fin.get m q ≡ fin.get n q) → m ≡ n
 same_files = same_map nat_list_cmp_total (slice_cmp-IsAntisymmetric nat_cmp-IsAntisymmetric)
 
-below : (path : List ℕ) (es : List (List ℕ × List ℕ))
+-- the keys of a list that ascends are in order
+
+pub below : {X : Type 0} (path : List ℕ) (es : List (List ℕ × X))
     → AllByRecursion (λ q. slice_cmp nat_cmp path q ≡ Less) (keys_of es)
     → IsTrue (below_all (slice_cmp nat_cmp) path es)
 below path [] all = refl
 below path (e ∷ es) all = rw all.0 (below path es all.1)
 
-sorted : (es : List (List ℕ × List ℕ)) → IsStrictlySortedBy (slice_cmp nat_cmp) (keys_of es)
+pub sorted : {X : Type 0} (es : List (List ℕ × X)) → IsStrictlySortedBy (slice_cmp nat_cmp) (keys_of es)
     → IsTrue (is_sorted (slice_cmp nat_cmp) es)
 unfolding IsStrictlySortedBy
 sorted [] s = refl
 sorted (e ∷ es) s = rw (below e.0 es s.0) (sorted es s.1)
 
-is_T : (b : Bool) → IsTrue b → T b
+pub is_T : (b : Bool) → IsTrue b → T b
 is_T true e = tt
 is_T false e = absurd (cc)
 

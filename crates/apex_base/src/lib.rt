@@ -41,6 +41,6 @@ pub use records::{
 pub use refusal::Refusal;
 pub use sessions::{place_of, session_of};
 pub use shared::Shared;
-pub use targets::{before, held, is_target, kept};
+pub use targets::{before, held, is_module, is_target, kept};
 pub use text::{Name, Print};
 pub use why::Why;

@@ -118,7 +118,8 @@ pub fn is_target(targets: &[Target], session: SessionId, part: u32) -> bool
     targets.iter().any(|t| is_module(session, part, *t))
 }
 
-fn is_module(session: SessionId, part: u32, target: Target) -> bool
+/// Whether a target is the module that this part of a session submitted.
+pub fn is_module(session: SessionId, part: u32, target: Target) -> bool
     ensures { result ≡ is_module session part target }
 {
     match target {

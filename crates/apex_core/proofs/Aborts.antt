@@ -43,7 +43,8 @@ use Rattle.apex_core.specs.declared.judged.Patch.TheVariants.{Session}
 use Rattle.apex_core.specs.declared.tables.Tables.{Tables}
 use Rattle.apex_core.specs.Ending.{record_change}
 use Rattle.apex_core.specs.Core.{StandsFor}
-use Rattle.apex_core.specs.Judged.{IsJudged, patched, clock_after, units_after}
+use Rattle.apex_core.specs.Judged.{IsJudged, patched, clock_after, units_after, unfinished_after}
+use Rattle.apex_core.specs.Unfinished.{unfinished_with}
 use Rattle.apex_core.specs.Moving.{Moves}
 use Rattle.apex_core.specs.Taken.{files_taken, first_of}
 use Rattle.apex_core.proofs.Batches.{IsRowOf}
@@ -210,3 +211,4 @@ module _ (kept : RowMap) (tables : Tables) (w : World) (s : StandsFor kept table
         ∙ ap (λ (k : RowMap). record_change session ∷ files_taken k (own_target m.session)) s.stored) ∙ leads)
         (ap (λ (p : Patch). patched p w.sessions) patch) (ap (λ (p : Patch). clock_after p w.clock) patch)
         (ap (λ (p : Patch). units_after p (units w)) patch)
+        (λ name. ap (λ (p : Patch). unfinished_after p name (unfinished_with w.sessions name)) patch)

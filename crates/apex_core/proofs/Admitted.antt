@@ -69,15 +69,14 @@ four None None None None x = refl
 pub admitted_one : (tables : Tables) (w : World) (id : SessionId) (m : FileMap) (p : Package) (o : Option Refusal)
     → Show tables w → is_caller_id id ≡ true → is_taken tables.sessions.items id ≡ false
     → package_of 1 m (checked m) ≡ Ok p
-    → part_refusal (Some tables.image) tables.sessions.items tables.active.items p ≡ o
+    → part_refusal (Some tables.image) w.sessions tables.active p ≡ o
     → admitted w id [] (m ∷ []) ≡ judged (p ∷ []) o
 admitted_one tables w id m p o seen caller free sound refusal =
     let unused : is_taken w.sessions id ≡ false =
     ap (λ (ss : List Record). is_taken ss id) (sym seen.sessions) ∙ free in
     let same : part_refusal w.image w.sessions w.active p ≡ o =
     ap (λ (i : Option Image). part_refusal i w.sessions w.active p) (sym seen.image)
-    ∙ ap (λ (ss : List Record). part_refusal (Some tables.image) ss w.active p) (sym seen.sessions)
-    ∙ ap (λ (ps : List Pick). part_refusal (Some tables.image) tables.sessions.items ps p) (sym seen.active)
+    ∙ ap (λ (ps : List Pick). part_refusal (Some tables.image) w.sessions ps p) (sym seen.active)
     ∙ refusal in
     let known = not_preinstalled w.image p in
     let alone = overlap w.sessions p in
@@ -99,7 +98,7 @@ refused_is w id m refusal e =
 module _ (kept : RowMap) (tables : Tables) (w : World) (s : StandsFor kept tables w) where
   -- the tables show the world that they stand for
   pub seen : Show tables w
-  seen = record { sessions = s.sessions; image = s.image; active = s.active }
+  seen = record { sessions = s.sessions; unfinished = s.unfinished; image = s.image; active = s.active }
 
   module _ (id : SessionId) (m : FileMap) (p : Package) (ok : admitted w id [] (m ∷ []) ≡ Ok (p ∷ [])) where
     is : IsAdmitted w id [] (m ∷ []) (p ∷ [])

@@ -18,9 +18,9 @@ use Rattle.apex_world.specs.Lawful.{Lawful}
 use Rattle.apex_world.specs.Rows.{undoes}
 use Rattle.apex_world.specs.World.{World}
 use Rattle.apex_world.proofs.AlikeAfter.{target_in}
-use Rattle.apex_world.proofs.CommitPeers.{success_finished}
+use Rattle.apex_world.proofs.StateFacts.{undoable_unfinished, success_finished}
 use Rattle.apex_world.proofs.HeldModules.{this_module}
-use Rattle.apex_world.proofs.KeptLemmas.{Own, Holds, Backs, kept_back, names_own, unfinished_as}
+use Rattle.apex_world.proofs.KeptLemmas.{Own, Holds, Backs, kept_back, names_own}
 use Rattle.apex_world.proofs.LatestLemmas.{named_by, IsLatest, latest_is}
 use Rattle.apex_world.proofs.OpenedSessions.{one_session}
 use Rattle.apex_world.proofs.OwnTargets.{own_at, target_session}
@@ -98,7 +98,7 @@ module _ (w v : World) (law : Lawful w) (later : Lawful v) (still : IsSimple v) 
         | inl e ↦ no_undoable x u e
         | inr i ↦ law.alone x r name i h
             (λ e. no_undoable x u (one_session v.sessions x session later.ids.ascend j self (e ∙ sym same_number)))
-            n named (unfinished_as x.state u) (ap is_unfinished active)
+            n named (undoable_unfinished x.state u) (ap is_unfinished active)
       ]
 
   undoable_of : (x : Record) → In x v.sessions → (is_undoable x.state || is_available x.rollback) ≡ true

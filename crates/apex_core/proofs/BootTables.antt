@@ -28,6 +28,7 @@ use Rattle.apex_core.specs.declared.booted.JudgedBoot.{JudgedBoot}
 use Rattle.apex_core.specs.declared.tables.Tables.{Tables}
 use Rattle.apex_core.specs.Booted.{IsBooted}
 use Rattle.apex_core.specs.Core.{IsSimple, IsStored, StandsFor}
+use Rattle.apex_core.specs.Unfinished.{AreUnfinished, unfinished_with}
 use Rattle.apex_core.proofs.TurnedSessions.{become_kept}
 
 small_units : (scale : Scale) (n : ℕ) → n ≤ scale_units scale → n < 2 ^ 32
@@ -42,10 +43,11 @@ small_weight Standard n low = omega (arith, low)
 pub record HasBooted (judged : JudgedBoot) (order : BootOrder) (light : ℕ) (tables : Tables) : Type 0 where
   pub scale : tables.scale ≡ order.scale
   pub sessions : tables.sessions.items ≡ judged.sessions.items
+  pub unfinished : AreUnfinished tables.unfinished judged.sessions.items
   pub units : tables.units ≡ units_of judged.sessions.items
   pub weight : tables.weight ≡ light
   pub image : tables.image ≡ order.image
-  pub active : tables.active.items ≡ judged.active.items
+  pub active : tables.active ≡ judged.active.items
   pub clock : tables.clock ≡ order.time
 
 module _ (kept : RowMap) (w : World) (s : IsStored kept w) (order : BootOrder) (o : IsOrderOf w order)
@@ -95,6 +97,7 @@ module _ (kept : RowMap) (w : World) (s : IsStored kept w) (order : BootOrder) (
       stored = is ∙ b.stored;
       scale = t.scale ∙ o.scale ∙ sym goes.scale;
       sessions = t.sessions ∙ b.sessions;
+      unfinished = λ name. t.unfinished name ∙ ap (λ (ss : List Record). unfinished_with ss name) b.sessions;
       units = t.units ∙ ap units_of b.sessions;
       weight = t.weight ∙ weighs;
       image = ap Some t.image ∙ sym goes.image;

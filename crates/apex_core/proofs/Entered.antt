@@ -1,5 +1,6 @@
 -- What a core does where a submit of one module is accepted. Callers want `entered_is`.
-use Rattle.std.proofs.Common.{◌≡◌, ◌<◌, ◌^◌, leb, false, List, [], ◌∷◌, Ok, sym, ap}
+use Rattle.std.proofs.Common.{◌≡◌, ◌<◌, ◌^◌, leb, true, false, ℕ, List, [], ◌∷◌, Ok, None, sym, ap}
+use Rattle.std.specs.Str.{bytes_eq}
 use Rattle.std.proofs.Common.{subst, ◌∙◌, refl, inl, inr, arith}
 use Rattle.std.proofs.lemmas.Bool.{and_parts, leb-true}
 use Rattle.apex_base.specs.declared.numbers.SessionId.{SessionId}
@@ -7,7 +8,7 @@ use Rattle.apex_base.specs.declared.records.Record.{Record}
 use Rattle.apex_base.specs.Keys.{RowMap}
 use Rattle.apex_base.specs.Members.{In}
 use Rattle.apex_base.specs.Modules.{FileMap, IsModule}
-use Rattle.apex_base.specs.Sessions.{with_session}
+use Rattle.apex_base.specs.Sessions.{names, session_of, with_session}
 use Rattle.apex_base.proofs.SessionLemmas.{with_any}
 use Rattle.row_map.specs.Rows.{changed}
 use Rattle.apex_world.specs.declared.calls.Call.TheVariants as calls
@@ -24,15 +25,19 @@ use Rattle.apex_world.proofs.AdmittedLemmas.{admitted_is}
 use Rattle.apex_world.proofs.CallsRun.{calls_run}
 use Rattle.apex_world.proofs.PlainLemmas.{submit_plain}
 use Rattle.apex_world.proofs.SubmitWeight.{submit_units}
+use Rattle.apex_world.proofs.WorldRows.{same_name}
 use Rattle.apex_core.specs.declared.judged.Judged.{Judged}
 use Rattle.apex_core.specs.declared.judged.Patch.{Patch}
 use Rattle.apex_core.specs.declared.judged.Patch.TheVariants.{New}
 use Rattle.apex_core.specs.declared.tables.Tables.{Tables}
 use Rattle.apex_core.specs.Core.{IsSimple, StandsFor}
-use Rattle.apex_core.specs.Judged.{IsJudged, RunsOn, patched, clock_after, units_after}
+use Rattle.apex_core.specs.Judged.{IsJudged, RunsOn, patched, clock_after, units_after, unfinished_after}
+use Rattle.apex_core.specs.Unfinished.{unfinished_with, entered_to}
 use Rattle.apex_core.specs.Submitting.{IsEntered, plain_session, submitted_rows}
-use Rattle.apex_core.proofs.Admitted.{free}
+use Rattle.apex_core.proofs.Admitted.{free, nobody_there}
 use Rattle.apex_core.proofs.EnteredRows.{entered_leads}
+use Rattle.apex_core.proofs.Moved.{or_false}
+use Rattle.apex_core.proofs.UnfinishedSessions.{entered_left, none_unfinished}
 
 module _ (kept : RowMap) (tables : Tables) (w : World) (s : StandsFor kept tables w) (id : SessionId) (m : FileMap)
     (p : Package) (ok : admitted w id [] (m ∷ []) ≡ Ok (p ∷ [])) (is_module : IsModule m)
@@ -78,6 +83,18 @@ module _ (kept : RowMap) (tables : Tables) (w : World) (s : StandsFor kept table
       ∙ entered_leads w s.running.lawful s.simple.plain id p (free kept tables w s id m p ok) ranged plain
       running.lawful
 
+  -- nobody has its id
+  nobody : session_of w.sessions id ≡ None
+  nobody = ap (λ (ss : List Record). session_of ss id) (sym s.sessions) ∙ nobody_there kept tables w s id m p ok
+
+  -- nor its name, who is unfinished
+  nobody_else : (name : List ℕ) → names name new ≡ true → unfinished_with w.sessions name ≡ None
+  nobody_else name named =
+      let its : p.name ≡ name = same_name p.name name (sym (or_false (bytes_eq p.name name)) ∙ named) in
+      ap (λ (a : List ℕ). unfinished_with w.sessions a) (sym its)
+      ∙ none_unfinished w.sessions p.name (λ r i u n.
+      (admitted_is w id [] (m ∷ []) (p ∷ []) ok).alone p r (inl refl) i u n)
+
   -- the new session enters
   pub entered_is : (judged : Judged) → IsEntered judged tables (plain_session id p tables.image.print) p.content
       → IsJudged judged kept w (calls.Submit id [] false (m ∷ []))
@@ -98,6 +115,10 @@ module _ (kept : RowMap) (tables : Tables) (w : World) (s : StandsFor kept table
         units = ap (λ (q : Patch). units_after q (units w)) way.patch
             ∙ sym (submit_units w s.running.lawful id [] false (p ∷ []) (free kept tables w s id m p ok))
             ∙ sym (ap (λ (y : Stepped). units y.world) e);
+        unfinished = λ name. ap (λ (q : Patch). unfinished_after q name (unfinished_with w.sessions name)) way.patch
+            ∙ ap (λ (x : Record). entered_to x name (unfinished_with w.sessions name)) session_is
+            ∙ entered_left new w.sessions refl nobody nobody_else name
+            ∙ sym (ap (λ (y : Stepped). unfinished_with y.world.sessions name) e);
         rest = subst (λ (y : Stepped). RunsOn w y.world) (sym e)
             (record { scale = refl; image = refl; active = refl });
       }

@@ -38,9 +38,11 @@ use Rattle.apex_core.specs.declared.judged.Patch.{Patch}
 use Rattle.apex_core.specs.declared.judged.Patch.TheVariants.{Nothing, Session}
 use Rattle.apex_core.specs.declared.tables.Tables.{Tables}
 use Rattle.apex_core.specs.Core.{IsSimple, StandsFor}
-use Rattle.apex_core.specs.Judged.{IsJudged, RunsOn, patched, clock_after, units_after}
+use Rattle.apex_core.specs.Judged.{IsJudged, RunsOn, patched, clock_after, units_after, unfinished_after}
+use Rattle.apex_core.specs.Unfinished.{unfinished_with}
 use Rattle.apex_core.proofs.Batches.{IsRowOf, batch_leads}
 use Rattle.apex_core.proofs.Simple.{move_simple, move_units}
+use Rattle.apex_core.proofs.UnfinishedSessions.{left_moved}
 use Rattle.apex_world.proofs.CallsRun.{calls_run}
 use Rattle.apex_world.proofs.ReadyRows.{ready_rows}
 use Rattle.apex_world.proofs.WorldRows.{same_id}
@@ -77,6 +79,8 @@ module _ (kept : RowMap) (tables : Tables) (w : World) (s : StandsFor kept table
         sessions = ap (λ (p : Patch). patched p w.sessions) nothing ∙ ap (λ (v : World). v.sessions) (sym world);
         clock = ap (λ (p : Patch). clock_after p w.clock) nothing ∙ ap (λ (v : World). v.clock) (sym world);
         units = ap (λ (p : Patch). units_after p (units w)) nothing ∙ ap units (sym world);
+        unfinished = λ name. ap (λ (p : Patch). unfinished_after p name (unfinished_with w.sessions name)) nothing
+            ∙ ap (λ (v : World). unfinished_with v.sessions name) (sym world);
         running = subst Running (sym world) s.running;
         simple = subst IsSimple (sym world) s.simple;
         rest = subst (RunsOn w) (sym world) (record { scale = refl; image = refl; active = refl });
@@ -206,6 +210,10 @@ module _ (kept : RowMap) (tables : Tables) (w : World) (s : StandsFor kept table
           clock = ap (λ (p : Patch). clock_after p w.clock) patch ∙ sym (ap (λ (y : Stepped). y.world.clock) e);
           units = ap (λ (p : Patch). units_after p (units w)) patch
               ∙ sym (move_units w s.simple w.clock id step_of.Ready);
+          unfinished = λ name. ap (λ (p : Patch). unfinished_after p name (unfinished_with w.sessions name)) patch
+              ∙ left_moved w (ready w id).world law run.lawful id r session b r.rollback step_of.Ready
+              (found_in id (Some r) found) same goes
+              (ap (λ (y : Stepped). y.world.sessions) e ∙ ap (λ (x : Record). with_session x w.sessions) (sym same)) name;
           simple = move_simple w s.simple w.clock id step_of.Ready;
           rest = subst (λ (y : Stepped). RunsOn w y.world) (sym e)
               (record { scale = refl; image = refl; active = refl });

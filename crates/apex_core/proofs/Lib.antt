@@ -1,5 +1,6 @@
 pub mod Aborts
 pub mod Admitted
+pub mod BackupRows
 pub mod BatchOrder
 pub mod BatchRows
 pub mod Batches
@@ -16,8 +17,8 @@ pub mod InPlace
 pub mod Judgements
 pub mod KeyModules
 pub mod Moved
+pub mod NamedSessions
 pub mod NewRows
-pub mod Parts
 pub mod Performed
 pub mod PlainRows
 pub mod RowRange
@@ -30,4 +31,5 @@ pub mod Successes
 pub mod TakenBatches
 pub mod TakenFiles
 pub mod TurnedSessions
+pub mod UnfinishedSessions
 pub mod Weights

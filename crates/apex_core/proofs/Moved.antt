@@ -42,11 +42,13 @@ use Rattle.apex_core.specs.declared.judged.Patch.TheVariants.{Nothing}
 use Rattle.apex_core.specs.declared.tables.Tables.{Tables}
 use Rattle.apex_core.specs.Ending.{record_change}
 use Rattle.apex_core.specs.Core.{IsSimple, StandsFor}
-use Rattle.apex_core.specs.Judged.{IsJudged, RunsOn, patched, clock_after, units_after}
+use Rattle.apex_core.specs.Judged.{IsJudged, RunsOn, patched, clock_after, units_after, unfinished_after}
+use Rattle.apex_core.specs.Unfinished.{unfinished_with, left_to}
 use Rattle.apex_core.specs.Moving.{Moves}
 use Rattle.apex_core.specs.Taken.{first_of}
 use Rattle.apex_core.proofs.Judgements.{found_in, is_record, quiet_is, room_in}
 use Rattle.apex_core.proofs.Simple.{move_simple, move_units}
+use Rattle.apex_core.proofs.UnfinishedSessions.{left_moved}
 
 -- The row of a record
 
@@ -195,8 +197,10 @@ module _ (g : Moving) where
       → changed (rows g.w) judged.rows.items ≡ rows (left_by g)
       → patched judged.patch g.w.sessions ≡ slice_set g.w.sessions g.place g.session
       → clock_after judged.patch g.w.clock ≡ g.clock → units_after judged.patch (units g.w) ≡ units g.w
+      → ((name : List ℕ) → unfinished_after judged.patch name (unfinished_with g.w.sessions name)
+      ≡ left_to g.session name (unfinished_with g.w.sessions name))
       → IsJudged judged g.kept g.w g.call
-  moved_is judged says leads puts rises counts = record {
+  moved_is judged says leads puts rises counts leaves = record {
     reply = says ∙ sym (ap (λ (y : Stepped). y.reply) step_is);
     running = calls_run g.w g.stands.running g.call g.is_call;
     simple = subst (λ (y : Stepped). IsSimple y.world) (sym step_is) stays_simple;
@@ -209,6 +213,10 @@ module _ (g : Moving) where
     clock = rises ∙ sym (ap (λ (y : Stepped). y.world.clock) step_is);
     units = counts ∙ sym (move_units g.w g.stands.simple g.clock g.id g.by)
         ∙ sym (ap (λ (y : Stepped). units y.world) g.called);
+    unfinished = λ name. leaves name
+        ∙ left_moved g.w (left_by g) g.stands.running.lawful runs_on.lawful g.id g.moves.session g.session g.next
+        g.moves.session.rollback g.by its_place g.same g.moves.goes refl name
+        ∙ sym (ap (λ (y : Stepped). unfinished_with y.world.sessions name) step_is);
     rest = subst (λ (y : Stepped). RunsOn g.w y.world) (sym step_is)
         (record { scale = refl; image = refl; active = refl });
   }

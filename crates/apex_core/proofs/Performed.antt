@@ -1,7 +1,6 @@
 -- What a call leaves that was judged and done. Callers want `weighs`,
--- `small_now`, `small_next`, `weighs_next`, `stands_next`, `stands_same`, `stands_still` and `stands_quiet`.
-use Rattle.std.proofs.Common.{◌≡◌, ◌≤◌, ◌<◌, ◌^◌, ℕ, [], Some, sym, ap, subst, ◌∙◌, refl, arith, Result, Ok, Err}
-use Rattle.std.specs.Prelude.{OnOk, OnErr}
+-- `small_now`, `small_next`, `weighs_next`, `stands_next`, `stands_same` and `stands_quiet`.
+use Rattle.std.proofs.Common.{◌≡◌, ◌≤◌, ◌<◌, ◌^◌, ℕ, [], Some, sym, ap, subst, ◌∙◌, refl, arith}
 use Rattle.apex_base.specs.declared.numbers.Scale.{Scale}
 use Rattle.apex_base.specs.declared.numbers.Scale.TheVariants.{Small, Standard}
 use Rattle.apex_base.specs.Keys.{RowMap}
@@ -20,7 +19,7 @@ use Rattle.apex_core.specs.declared.judged.Patch.{Patch}
 use Rattle.apex_core.specs.declared.judged.Patch.TheVariants.{Nothing}
 use Rattle.apex_core.specs.declared.tables.Tables.{Tables}
 use Rattle.apex_core.specs.Core.{StandsFor}
-use Rattle.apex_core.specs.Judged.{IsJudged, IsPatched, IsSame, patched, clock_after, units_after}
+use Rattle.apex_core.specs.Judged.{IsJudged, IsPatched, IsSame, patched, clock_after, units_after, unfinished_after}
 
 small_scale : (scale : Scale) (n : ℕ) → n ≤ scale_file_weight scale → n < 2 ^ 32
 small_scale Small n low = omega (arith, low)
@@ -60,6 +59,8 @@ stands_next kept kept' before after w call judged n s j e weighs p = record {
   scale = p.scale ∙ s.scale ∙ j.rest.scale;
   sessions = p.sessions ∙ ap (patched judged.patch) s.sessions ∙ j.sessions;
   units = p.units ∙ ap (units_after judged.patch) s.units ∙ j.units;
+  unfinished = λ name.
+      p.unfinished name ∙ ap (unfinished_after judged.patch name) (s.unfinished name) ∙ j.unfinished name;
   weight = p.weight ∙ weighs;
   image = ap Some p.image ∙ s.image ∙ j.rest.image;
   active = p.active ∙ s.active ∙ j.rest.active;
@@ -76,18 +77,12 @@ stands_same kept kept' before after w s e p = record {
   scale = p.scale ∙ s.scale;
   sessions = p.sessions ∙ s.sessions;
   units = p.units ∙ s.units;
+  unfinished = λ name. p.unfinished name ∙ s.unfinished name;
   weight = p.weight ∙ s.weight;
   image = ap Some p.image ∙ s.image;
   active = p.active ∙ s.active;
   clock = p.clock ∙ s.clock;
 }
-
--- after a call, or without memory, the core stands for a world
-pub stands_still : {X Y : Type 0} (result : Result X Y) (kept : RowMap) (tables : Tables) (w v : World)
-    → OnOk result (StandsFor kept tables v) → OnErr result (StandsFor kept tables w)
-    → (x : World) × StandsFor kept tables x
-stands_still (Ok x) kept tables w v next stays = (v, next)
-stands_still (Err y) kept tables w v next stays = (w, stays)
 
 -- the same rows and tables, where the call changes nothing
 pub stands_quiet : (kept : RowMap) (tables : Tables) (w : World) (call : Call) (judged : Judged)
@@ -100,6 +95,7 @@ stands_quiet kept tables w call judged s j none nothing =
       sessions = refl;
       clock = refl;
       units = refl;
+      unfinished = λ name. refl;
       weight = refl;
       scale = refl;
       image = refl;

@@ -13,7 +13,7 @@ use Rattle.row_codec.specs.declared.batch.Row.{Row}
 use Rattle.row_codec.specs.Batch.{keys_of}
 use Rattle.row_map.specs.Room.{in_batch}
 use Rattle.apex_world.proofs.WorldRows.{same_name}
-use Rattle.apex_core.specs.Ending.{record_change, held_before, backups_taken, success_batch}
+use Rattle.apex_core.specs.Ending.{record_change, row_before, backups_taken, success_batch}
 use Rattle.apex_core.specs.Taken.{deletion}
 use Rattle.apex_core.proofs.TakenFiles.{in_batch_in, IsBelowFiles, all_ascend}
 use Rattle.apex_core.proofs.Moved.{or_false}
@@ -31,10 +31,10 @@ head_below r [] row (inr i) rest = absurd i
 head_below r (p ∷ ps) row (inr (inl e)) rest = ap (λ (x : Row). slice_cmp nat_cmp x.key (5 ∷ rest)) (sym e)
 head_below r (p ∷ ps) row (inr (inr i)) rest = absurd i
 
-pub success_ascends : (m : RowMap) (sessions : List Record) (r : Record)
-    → IsStrictlySortedBy (slice_cmp nat_cmp) (keys_of (success_batch m sessions r))
-success_ascends m sessions r =
-    all_ascend m (held_before sessions r) (record_change r ∷ backups_taken r.parts) (head_ascends r r.parts)
+pub success_ascends : (m : RowMap) (r : Record)
+    → IsStrictlySortedBy (slice_cmp nat_cmp) (keys_of (success_batch m r))
+success_ascends m r =
+    all_ascend m (row_before m r) (record_change r ∷ backups_taken r.parts) (head_ascends r r.parts)
     (head_below r r.parts)
 
 -- a session that names it has the row of what it held before in the batch

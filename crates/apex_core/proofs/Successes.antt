@@ -12,7 +12,8 @@ use Rattle.apex_base.specs.declared.records.RollbackState.{RollbackState}
 use Rattle.apex_base.specs.declared.records.RollbackState.TheVariants.{Available}
 use Rattle.apex_base.specs.declared.records.State.{State}
 use Rattle.apex_base.specs.declared.records.State.TheVariants as state
-use Rattle.apex_base.specs.Held.{is_success, is_module, is_target, kept}
+use Rattle.apex_base.specs.declared.records.Target.{Target}
+use Rattle.apex_base.specs.Held.{is_success, is_undoable, is_module, is_target, kept}
 use Rattle.apex_base.specs.Keys.{Key, Boots, RecordOf, ActiveOf, BackupOf, FileOf, DataOf, SnapshotOf, PreRestoreOf}
 use Rattle.apex_base.specs.Keys.{WatchOf, IsKey, RowMap, key_text}
 use Rattle.apex_base.specs.Members.{In}
@@ -43,11 +44,13 @@ use Rattle.apex_core.specs.declared.judged.Patch.{Patch}
 use Rattle.apex_core.specs.declared.judged.Patch.TheVariants.{Success}
 use Rattle.apex_core.specs.declared.tables.Tables.{Tables}
 use Rattle.apex_core.specs.Core.{IsSimple, StandsFor}
-use Rattle.apex_core.specs.Ending.{record_change, held_before, backups_taken, success_batch}
-use Rattle.apex_core.specs.Judged.{IsJudged, patched, clock_after, units_after}
+use Rattle.apex_core.specs.Ending.{record_change, held_before, row_before, backups_taken, success_batch}
+use Rattle.apex_core.specs.Judged.{IsJudged, patched, clock_after, units_after, unfinished_after}
+use Rattle.apex_core.specs.Unfinished.{unfinished_with}
 use Rattle.apex_core.specs.Moving.{Moves}
 use Rattle.apex_core.specs.Taken.{files_taken}
 use Rattle.apex_core.proofs.Aborts.{numbered}
+use Rattle.apex_core.proofs.BackupRows.{backups_are}
 use Rattle.apex_core.proofs.Batches.{IsRowOf, batch_leads}
 use Rattle.apex_core.proofs.BeforeGoes.{before_goes}
 use Rattle.apex_core.proofs.GivenUp.{held_target_of, held_by, none_outdated, no_restore, gives}
@@ -83,11 +86,16 @@ module _ (kept_rows : RowMap) (tables : Tables) (w : World) (s : StandsFor kept_
   pub success_room : HasRoom session
   success_room = has_room_moved kept_rows tables w s id step_of.Success place next m session same
 
-  pub held_numbered : HasPartNumber (held_before tables.sessions.items session)
-  held_numbered =
-      subst (λ (ss : List Record). HasPartNumber (held_before ss session)) (sym s.sessions)
-      (subst (λ (x : Record). HasPartNumber (held_before w.sessions x)) (sym same)
-      (numbered (held_before w.sessions m.session) held_is))
+  -- where it was ACTIVATED, the row of its name says what that held before it
+  before_is : is_success m.session.state ≡ false → row_before (rows w) m.session ≡ held_before w.sessions m.session
+  before_is b = backups_are w law m.session among
+      (ap is_undoable (activated_state m.session.state next m.goes b)) m.session.parts (λ p i. i)
+
+  pub held_numbered : is_success m.session.state ≡ false → HasPartNumber (row_before kept_rows session)
+  held_numbered b =
+      subst (λ (k : RowMap). HasPartNumber (row_before k session)) (sym s.stored)
+      (subst (λ (x : Record). HasPartNumber (row_before (rows w) x)) (sym same)
+      (subst HasPartNumber (sym (before_is b)) (numbered (held_before w.sessions m.session) held_is)))
 
   module _ (time : ℕ) (is_time : IsMillis time) where
     abbrev g : Moving
@@ -133,6 +141,7 @@ module _ (kept_rows : RowMap) (tables : Tables) (w : World) (s : StandsFor kept_
         (ap (λ (p : Patch). patched p w.sessions) patch)
         (ap (λ (p : Patch). clock_after p w.clock) patch ∙ later_one ∙ ap (λ n. max n time) s.clock)
         (ap (λ (p : Patch). units_after p (units w)) patch)
+        (λ name. ap (λ (p : Patch). unfinished_after p name (unfinished_with w.sessions name)) patch)
 
     -- a success of a session that is SUCCESS already
     again : is_success m.session.state ≡ true → after ≡ record w { clock = max w.clock time }
@@ -254,13 +263,13 @@ module _ (kept_rows : RowMap) (tables : Tables) (w : World) (s : StandsFor kept_
 
       -- a success that is done
       pub success_done : (judged : Judged) (clock : ℕ) → judged.reply ≡ reply.Done
-          → judged.rows.items ≡ success_batch kept_rows tables.sessions.items session
+          → judged.rows.items ≡ success_batch kept_rows session
           → judged.patch ≡ Success place session clock → clock ≡ max tables.clock time
           → IsJudged judged kept_rows w (calls.Success time id)
       success_done judged clock says batch patch later_one =
           judged_is judged clock says
           (ap (changed (rows w)) (batch
-          ∙ ap (λ (k : RowMap). success_batch k tables.sessions.items session) s.stored
-          ∙ ap (λ (ss : List Record). success_batch (rows w) ss session) s.sessions
+          ∙ ap (λ (k : RowMap). success_batch k session) s.stored
           ∙ ap (λ (x : Record). (record_change session ∷ backups_taken x.parts)
-          ++ files_taken (rows w) (held_before w.sessions x)) same) ∙ leads) patch later_one
+          ++ files_taken (rows w) (row_before (rows w) x)) same
+          ∙ ap (λ (t : Target). head ++ files_taken (rows w) t) (before_is before_it)) ∙ leads) patch later_one

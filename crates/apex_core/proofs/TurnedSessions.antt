@@ -21,21 +21,10 @@ use Rattle.apex_world.specs.BootByRows.{cause_in, activated_by_rows, become_in}
 use Rattle.apex_world.specs.Follows.{IsKeptAs}
 use Rattle.apex_world.specs.Selection.{Mounts}
 use Rattle.session_record.specs.Room.{HasRoom, HasPartNumber}
-use Rattle.apex_world.proofs.LeadsLemmas.{same, kept_on}
-use Rattle.apex_world.proofs.PlainLemmas.{reverted_keeps, activated_keeps}
+use Rattle.apex_world.proofs.LeadsLemmas.{changed, kept_on}
+use Rattle.apex_world.proofs.PlainLemmas.{reverted_keeps, rebuilt_kept, activated_keeps}
 
 -- What stays
-
-rebuilt_keeps : (s : State) (b : Bool) (r : Record) → IsKeptAs r (rebuilt_in s b r)
-rebuilt_keeps state.Verified b r = same r
-rebuilt_keeps state.Staged b r = same r
-rebuilt_keeps state.Activated true r = same r
-rebuilt_keeps state.Activated false r = record { id = refl; children = refl; kind = refl; parts = refl; print = refl }
-rebuilt_keeps state.ActivationFailed b r = same r
-rebuilt_keeps state.Success b r = same r
-rebuilt_keeps state.RevertInProgress b r = same r
-rebuilt_keeps state.Reverted b r = same r
-rebuilt_keeps state.Aborted b r = same r
 
 module _ (mounts : Mounts) (rows : RowMap) (order : BootOrder) (b : ℕ) (r : Record) where
   abbrev second : Record
@@ -47,22 +36,16 @@ module _ (mounts : Mounts) (rows : RowMap) (order : BootOrder) (b : ℕ) (r : Re
   abbrev fourth : Record
   fourth = activated_by_rows mounts rows order b third
 
-  third_keeps : IsKeptAs second third
-  third_keeps =
-      let k = rebuilt_keeps second.state (is_same_build order.image second) second in
-      record { id = k.id; children = k.children; kind = k.kind; parts = k.parts; print = k.print }
-
   fourth_keeps : IsKeptAs r fourth
   fourth_keeps =
       kept_on r second fourth (reverted_keeps r.state r).0
-      (kept_on second third fourth third_keeps (activated_keeps third.state
+      (kept_on second third fourth (rebuilt_kept order.image second) (activated_keeps third.state
       (is_same_build order.image third) (cause_in mounts rows order.image.modules third.parts) b third).0)
 
   -- a session keeps its id, its children, its kind and its parts
   pub become_kept : IsKeptAs r (become_in mounts rows order b r)
   become_kept =
-      let k = fourth_keeps in
-      record { id = k.id; children = k.children; kind = k.kind; parts = k.parts; print = k.print }
+      kept_on r fourth (become_in mounts rows order b r) fourth_keeps (changed fourth)
 
   -- and its spelling has room
   pub become_room : HasRoom r → HasRoom (become_in mounts rows order b r)

@@ -1,7 +1,6 @@
 -- What a call is to do: docs/rows.md, "A core".
-use Rattle.std.specs.Prelude.{◌≡◌, ◌≤◌, ◌<◌, ◌+◌, ℕ, List, length, insert, slice_set, vec_len, vec_capacity}
-use Rattle.std.specs.declared.alloc.Global.{Global}
-use Rattle.std.specs.declared.vec.Vec.{Vec}
+use Rattle.std.specs.Prelude.{◌≡◌, ◌≤◌, ◌<◌, ◌+◌, ℕ, List, length, insert, slice_set, vec_len, vec_capacity, Option}
+use Rattle.apex_base.specs.declared.numbers.SessionId.{SessionId}
 use Rattle.apex_base.specs.declared.records.Record.{Record}
 use Rattle.apex_base.specs.Keys.{RowMap}
 use Rattle.apex_core.specs.declared.judged.Judged.{Judged}
@@ -16,6 +15,7 @@ use Rattle.apex_world.specs.Step.{step}
 use Rattle.apex_world.specs.World.{World}
 use Rattle.row_map.specs.Rows.{changed}
 use Rattle.apex_core.specs.Core.{IsSimple}
+use Rattle.apex_core.specs.Unfinished.{HaveRoom, unfinished_with, under, left_to, entered_to}
 
 -- the sessions after a patch
 abbrev pub patched : Patch → List Record → List Record
@@ -38,6 +38,13 @@ units_after (Session place session) units = units
 units_after (Success place session clock) units = units
 units_after (New place session) units = units + kind_units session.kind
 
+-- the unfinished session of a name after it
+abbrev pub unfinished_after : Patch → List ℕ → Option SessionId → Option SessionId
+unfinished_after Nothing name before = before
+unfinished_after (Session place session) name before = left_to session name before
+unfinished_after (Success place session clock) name before = left_to session name before
+unfinished_after (New place session) name before = entered_to session name before
+
 -- the place is one of the list's, or for a new session its end
 abbrev pub IsPlaced : Patch → List Record → Type 0
 IsPlaced Nothing sessions = Unit {0}
@@ -46,11 +53,12 @@ IsPlaced (Success place session clock) sessions = place < length sessions
 IsPlaced (New place session) sessions = place ≤ length sessions
 
 -- there is room for a new session
-abbrev pub HasRoom : Patch → Vec Record Global → Type 0
-HasRoom Nothing sessions = Unit {0}
-HasRoom (Session place session) sessions = Unit {0}
-HasRoom (Success place session clock) sessions = Unit {0}
-HasRoom (New place session) sessions = vec_len sessions < vec_capacity sessions
+abbrev pub HasRoom : Patch → Tables → Type 0
+HasRoom Nothing tables = Unit {0}
+HasRoom (Session place session) tables = Unit {0}
+HasRoom (Success place session clock) tables = Unit {0}
+HasRoom (New place session) tables =
+    (vec_len tables.sessions < vec_capacity tables.sessions) × HaveRoom tables.unfinished session.parts
 
 -- what runs since the last boot is the same, but for the clock
 pub record RunsOn (w v : World) : Type 0 where
@@ -67,6 +75,8 @@ pub record IsJudged (judged : Judged) (kept : RowMap) (w : World) (call : Call) 
   pub sessions : patched judged.patch w.sessions ≡ (step w call).world.sessions
   pub clock : clock_after judged.patch w.clock ≡ (step w call).world.clock
   pub units : units_after judged.patch (units w) ≡ units (step w call).world
+  pub unfinished : (name : List ℕ) → unfinished_after judged.patch name (unfinished_with w.sessions name)
+      ≡ unfinished_with (step w call).world.sessions name
   pub rest : RunsOn w (step w call).world
 
 -- the tables with a patch, and the weight of the files that are kept now
@@ -74,17 +84,19 @@ pub record IsPatched (patch : Patch) (kept : ℕ) (before after : Tables) : Type
   pub sessions : after.sessions.items ≡ patched patch before.sessions.items
   pub clock : after.clock ≡ clock_after patch before.clock
   pub units : after.units ≡ units_after patch before.units
+  pub unfinished : (name : List ℕ) → under after.unfinished name ≡ unfinished_after patch name (under before.unfinished name)
   pub weight : after.weight ≡ kept
   pub scale : after.scale ≡ before.scale
   pub image : after.image ≡ before.image
-  pub active : after.active.items ≡ before.active.items
+  pub active : after.active ≡ before.active
 
 -- the same tables, whatever room they have
 pub record IsSame (before after : Tables) : Type 0 where
   pub sessions : after.sessions.items ≡ before.sessions.items
   pub clock : after.clock ≡ before.clock
   pub units : after.units ≡ before.units
+  pub unfinished : (name : List ℕ) → under after.unfinished name ≡ under before.unfinished name
   pub weight : after.weight ≡ before.weight
   pub scale : after.scale ≡ before.scale
   pub image : after.image ≡ before.image
-  pub active : after.active.items ≡ before.active.items
+  pub active : after.active ≡ before.active

@@ -3,6 +3,8 @@ pub mod Core
 pub mod Ending
 pub mod Judged
 pub mod Moving
+pub mod Prepared
 pub mod Submitting
 pub mod Taken
+pub mod Unfinished
 pub mod Weights

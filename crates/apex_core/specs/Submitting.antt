@@ -27,12 +27,14 @@ use Rattle.row_codec.specs.Batch.{keys_of}
 use Rattle.apex_core.specs.declared.judged.Judged.{Judged}
 use Rattle.apex_core.specs.declared.judged.Patch.TheVariants.{New}
 use Rattle.apex_core.specs.declared.tables.Tables.{Tables}
+use Rattle.apex_core.specs.Unfinished.{AreUnfinished}
 
 -- the tables show what a part is judged beside
 pub record Show (tables : Tables) (w : World) : Type 0 where
   pub sessions : tables.sessions.items ≡ w.sessions
+  pub unfinished : AreUnfinished tables.unfinished w.sessions
   pub image : Some tables.image ≡ w.image
-  pub active : tables.active.items ≡ w.active
+  pub active : tables.active ≡ w.active
 
 -- the first refusal that a part meets beside what runs
 abbrev pub part_refusal : Option Image → List Record → List Pick → Package → Option Refusal

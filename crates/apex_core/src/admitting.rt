@@ -10,12 +10,12 @@ ghost use Rattle.apex_world.specs.Submit.{admitted, is_caller_id, is_taken, pack
 ghost use Rattle.apex_world.specs.World.{World};
 ghost use Rattle.apex_core.specs.Submitting.{Show, one_part};
 
+use crate::checked::CheckedModule;
 use crate::running::part_refusal;
 use crate::sessions::session_with;
 use crate::tables::Tables;
 use apex_base::{Boxed, ModuleFault, Record, Refusal, SessionId, Why};
-use apex_manifest::ManifestWhy;
-use apex_world::{Package, SharedModule};
+use apex_world::Package;
 use std::alloc::Global;
 
 /// The module with its name and version, or the first refusal that needs no new session.
@@ -23,7 +23,7 @@ pub(crate) fn admit(
     alloc: Global,
     tables: &Tables,
     id: SessionId,
-    part: &SharedModule,
+    part: &CheckedModule,
 ) -> Result<Package, Why<Refusal>>
     requires ascend { Ascend tables.now.sessions.items }
     requires childless { (r : Record) → In r tables.now.sessions.items → r.children ≡ [] }
@@ -36,7 +36,12 @@ pub(crate) fn admit(
         return Err(Why::Fault(Refusal::IdTaken { id }));
     }
     let p = packaged(alloc, part)?;
-    match part_refusal(tables.image.get(), &tables.sessions, &tables.active, &p) {
+    match part_refusal(
+        tables.image.get(),
+        &tables.unfinished,
+        tables.active.as_slice(),
+        &p,
+    ) {
         Some(refusal) => Err(Why::Fault(refusal)),
         None => Ok(p),
     }
@@ -60,11 +65,11 @@ fn is_taken(sessions: &[Record], id: SessionId) -> bool
 }
 
 /// The module with its name and version, where it is sound.
-fn packaged(alloc: Global, part: &SharedModule) -> Result<Package, Why<Refusal>>
+fn packaged(alloc: Global, part: &CheckedModule) -> Result<Package, Why<Refusal>>
     ensures { Answers result (package_of 1 part.now (checked part.now)) }
 {
-    match part.check(alloc) {
-        Ok(manifest) => match part.share() {
+    match part.said() {
+        Ok(manifest) => match part.content().share() {
             Ok(content) => Ok(Package {
                 name: manifest.name,
                 version: manifest.version,
@@ -72,8 +77,7 @@ fn packaged(alloc: Global, part: &SharedModule) -> Result<Package, Why<Refusal>>
             }),
             Err(_) => Err(Why::NoMemory),
         },
-        Err(ManifestWhy::Fault(fault)) => Err(unsound(alloc, fault)),
-        Err(ManifestWhy::NoMemory) => Err(Why::NoMemory),
+        Err(fault) => Err(unsound(alloc, *fault.get())),
     }
 }
 

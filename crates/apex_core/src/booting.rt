@@ -5,8 +5,9 @@ ghost use Rattle.apex_world.specs.Limits.{units_of};
 use crate::booted::judge_boot;
 use crate::manager::{Core, kind_units};
 use crate::tables::Tables;
-use apex_base::{Mounter, Record};
-use apex_world::{BootOrder, BootReply};
+use crate::unfinished::unfinished_of;
+use apex_base::{Listed, Mounter, Pick, Record};
+use apex_world::{ActiveSet, BootOrder, BootReply};
 use package_store::{kept_weight, rows_are_those_shown};
 use row_map::Rows;
 use std::alloc::{AllocError, Global};
@@ -41,17 +42,25 @@ impl Core {
         rows_are_those_shown();
         let weight = kept_weight(after.by_key());
         let units = units_of(&judged.sessions);
+        let unfinished = unfinished_of(alloc, &judged.sessions)?;
         let tables = Tables {
             scale: order.scale,
             sessions: judged.sessions,
+            unfinished,
             units,
             weight,
             image,
-            active: judged.active,
+            active: active_set(judged.active),
             clock: order.time,
         };
         Ok((Core::of(after, tables), judged.reply))
     }
+}
+
+fn active_set(picks: Vec<Pick>) -> ActiveSet
+    ensures { result ≡ picks.items }
+{
+    Listed::of(picks)
 }
 
 /// The units of these sessions.

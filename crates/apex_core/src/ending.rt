@@ -1,5 +1,6 @@
 //! How a session ends by a call: abort and success, `docs/calls.md`.
 ghost use Rattle.std.specs.Prelude.{◌≡◌, ℕ, max, IfOk, IfErr};
+ghost use Rattle.std.specs.FinMap as fin;
 ghost use Rattle.apex_base.specs.Keys.{BackupOf, key_text};
 ghost use Rattle.apex_base.specs.Sessions.{Ascend};
 ghost use Rattle.apex_base.specs.Ranges.{IsMillis};
@@ -13,7 +14,7 @@ ghost use Rattle.apex_world.specs.Advance.{move_session};
 ghost use Rattle.apex_world.specs.Stepped.{refused};
 ghost use Rattle.apex_world.specs.World.{World};
 ghost use Rattle.apex_core.specs.Core.{StandsFor};
-ghost use Rattle.apex_core.specs.Ending.{held_before, success_batch};
+ghost use Rattle.apex_core.specs.Ending.{row_before, spelled, success_batch};
 ghost use Rattle.apex_core.specs.Judged.{IsJudged, IsPlaced};
 ghost use Rattle.apex_core.specs.Moving.{Moves};
 ghost use Rattle.apex_core.specs.Taken.{first_of};
@@ -22,10 +23,11 @@ use crate::files::take_files;
 use crate::judged::{Judged, Patch};
 use crate::rows::{record_rows, session_in};
 use crate::tables::Tables;
-use apex_base::{Bytes, Listed, Millis, Move, Name, Part, Record, Refusal, SessionId, State, Target, before, moved, place_of};
+use apex_base::{Bytes, Listed, Millis, Move, Name, Part, Record, Refusal, SessionId, State, Target, moved, place_of};
 use apex_world::Reply;
 use row_codec::Row;
 use row_map::Rows;
+use session_record::target_at;
 use std::alloc::{AllocError, Global};
 
 /// Abort: the session's record changes where it was VERIFIED or STAGED, and its modules go.
@@ -79,7 +81,7 @@ pub(crate) fn judge_success(
     let batch = if r.state.is_success() {
         Vec::new(alloc)
     } else {
-        success_rows(alloc, rows, &tables.sessions, &session)?
+        success_rows(alloc, rows, &session)?
     };
     let patch = Patch::success(alloc, place, session, clock)?;
     Ok(Judged {
@@ -93,21 +95,34 @@ pub(crate) fn judge_success(
 fn success_rows(
     alloc: Global,
     rows: &Rows,
-    sessions: &[Record],
     session: &Record,
 ) -> Result<Vec<Row>, AllocError>
     requires room { HasRoom session.now }
-    requires numbered { HasPartNumber (held_before sessions.now session.now) }
-    ensures rows { IfOk result (λ batch. batch.items ≡ success_batch rows.now sessions.now session.now) }
+    requires numbered { HasPartNumber (row_before rows.now session.now) }
+    ensures rows { IfOk result (λ batch. batch.items ≡ success_batch rows.now session.now) }
 {
     let mut batch = record_rows(alloc, session)?;
     let [p, ..] = session.parts.as_slice() else {
         return Ok(batch);
     };
     let key = backup_key(alloc, &p.name)?;
+    let target = target_in(rows, key.as_slice());
     batch.push(Row { key, value: None })?;
-    take_files(alloc, rows, before(sessions, session, &p.name), &mut batch)?;
+    take_files(alloc, rows, target, &mut batch)?;
     Ok(batch)
+}
+
+/// The target that the row of a key says; preinstalled where there is no row.
+fn target_in(rows: &Rows, key: &[u8]) -> Target
+    ensures { result ≡ spelled (fin.get rows.now key.now) }
+{
+    let Some(value) = rows.get(key) else {
+        return Target::Preinstalled;
+    };
+    match target_at(value) {
+        Some((target, _)) => target,
+        None => Target::Preinstalled,
+    }
 }
 
 /// The key of the row of what a name held before.

@@ -6,21 +6,22 @@ ghost use Rattle.std.specs.Ordering.{nat_cmp};
 ghost use Rattle.std.specs.List.Sorted.{IsStrictlySortedBy};
 ghost use Rattle.apex_base.specs.Keys.{RowMap};
 ghost use Rattle.apex_world.specs.declared.calls.Call.TheVariants as calls;
-ghost use Rattle.apex_world.specs.Calls.{call_at};
 ghost use Rattle.apex_world.specs.Rows.{is_staged};
 ghost use Rattle.apex_world.specs.World.{World};
 ghost use Rattle.apex_core.specs.Core.{StandsFor};
 ghost use Rattle.apex_core.specs.Judged.{IsJudged, IsPlaced};
+ghost use Rattle.apex_core.specs.Prepared.{call_of};
 ghost use Rattle.apex_world.specs.Playable.{IsBuilt};
 
 use crate::ending::{judge_abort, judge_success};
 use crate::judged::{Judged, Patch};
+use crate::prepared::{CheckedCall, OtherCall};
 use crate::rows::{record_rows, session_in};
 use crate::sessions::session_with;
-use crate::submitting::judge_submit;
+use crate::submitting::judge_single;
 use crate::tables::Tables;
 use apex_base::{Move, Refusal, SessionId, State, moved, place_of};
-use apex_world::{CallRef, Reply};
+use apex_world::Reply;
 use row_map::Rows;
 use std::alloc::{AllocError, Global};
 
@@ -86,29 +87,28 @@ pub fn judge(
     alloc: Global,
     rows: &Rows,
     tables: &Tables,
-    call: &CallRef,
+    call: &CheckedCall,
 ) -> Result<Judged, AllocError>
-    requires built { IsBuilt (call_at call.now) }
+    requires built { IsBuilt (call_of call.now) }
     requires stands { (w : World) × StandsFor rows.now tables.now w }
-    ensures judged { (w : World) → StandsFor rows.now tables.now w → IfOk result (λ j. IsJudged j rows.now w (call_at call.now)) }
+    ensures judged { (w : World) → StandsFor rows.now tables.now w → IfOk result (λ j. IsJudged j rows.now w (call_of call.now)) }
     ensures placed { IfOk result (λ j. IsPlaced j.patch tables.now.sessions.items) }
     ensures ascending { IfOk result (λ j. IsStrictlySortedBy (slice_cmp nat_cmp) (keys_of j.rows.items)) }
 {
     match call {
-        CallRef::Ready { id } => judge_ready(alloc, rows, tables, *id),
-        CallRef::StateOf { id } => judge_state(alloc, rows, tables, *id),
-        CallRef::Submit { id, parts, .. } => match parts {
-            [part] => judge_submit(alloc, rows, tables, *id, part),
-            _ => unreachable!(),
+        CheckedCall::Ready { id } => judge_ready(alloc, rows, tables, *id),
+        CheckedCall::StateOf { id } => judge_state(alloc, rows, tables, *id),
+        CheckedCall::Submit(submit) => judge_single(alloc, rows, tables, submit.get()),
+        CheckedCall::Abort { id } => judge_abort(alloc, rows, tables, *id),
+        CheckedCall::Success { time, id } => judge_success(alloc, rows, tables, *time, *id),
+        CheckedCall::Other(call) => match call.get() {
+            OtherCall::Revert
+            | OtherCall::Commit { .. }
+            | OtherCall::Put { .. }
+            | OtherCall::Drop { .. }
+            | OtherCall::Get { .. }
+            | OtherCall::Watch { .. }
+            | OtherCall::Report { .. } => unreachable!(),
         },
-        CallRef::Abort { id } => judge_abort(alloc, rows, tables, *id),
-        CallRef::Success { time, id } => judge_success(alloc, rows, tables, *time, *id),
-        CallRef::Revert
-        | CallRef::Commit { .. }
-        | CallRef::Put { .. }
-        | CallRef::Drop { .. }
-        | CallRef::Get { .. }
-        | CallRef::Watch { .. }
-        | CallRef::Report { .. } => unreachable!(),
     }
 }

@@ -1,33 +1,40 @@
 //! The manager of one thread.
-ghost use Rattle.std.specs.Prelude.{◌≡◌, ◌≤◌, ◌<◌, ◌^◌, IfOk, OnOk, OnErr, find, option_map};
+ghost use Rattle.std.specs.Prelude.{◌≡◌, ◌≤◌, ◌<◌, ◌^◌, false, IfOk, IsSomeAnd, OnOk, OnErr, find, option_map};
+ghost use Rattle.std.specs.Option.{ForSome};
 ghost use Rattle.apex_base.specs.declared.records.Record.{Record};
 ghost use Rattle.apex_base.specs.Sessions.{has_id};
-ghost use Rattle.apex_world.specs.Calls.{call_at};
 ghost use Rattle.apex_world.specs.Step.{step};
 ghost use Rattle.apex_world.specs.World.{World};
 ghost use Rattle.apex_world.specs.Limits.{kind_units};
 ghost use Rattle.apex_world.specs.Playable.{IsBuilt};
 ghost use Rattle.apex_core.specs.Core.{StandsFor, IsStored, Kept};
+ghost use Rattle.apex_core.specs.Prepared.{IfAnswered, IfNoMemory, call_of};
 ghost use Rattle.apex_core.specs.Judged.{HasRoom, IsPlaced, IsPatched, IsSame, units_after};
 
+use crate::answer::Answer;
 use crate::judged::{Judged, Patch};
 use crate::judging::judge;
+use crate::prepared::{CheckedCall, Prepared};
 use crate::sessions::session_with;
 use crate::tables::Tables;
+use crate::unfinished::{enter_names, leave_names, make_room_under};
 use crate::weighing::weight_after;
-use apex_base::{Kind, Pick, SessionId, State};
-use apex_world::{CallRef, Reply};
+use apex_base::{Kind, SessionId, State};
+use apex_world::{ActiveSet, Reply};
 use row_map::Rows;
 use std::alloc::{AllocError, Global};
 use std::marker::Model;
 
 /// Takes the memory that a patch needs.
 fn make_room(tables: &mut Tables, patch: &Patch) -> Result<(), AllocError>
-    ensures room { OnOk result (HasRoom patch.now tables.new.sessions) }
+    ensures room { OnOk result (HasRoom patch.now tables.new) }
     ensures same { IsSame tables.old tables.new }
 {
     match patch {
-        Patch::New { .. } => tables.sessions.reserve(1),
+        Patch::New { session, .. } => {
+            tables.sessions.reserve(1)?;
+            make_room_under(&mut tables.unfinished, session.get().parts.as_slice())
+        }
         Patch::Nothing | Patch::Session { .. } | Patch::Success { .. } => Ok(()),
     }
 }
@@ -35,24 +42,30 @@ fn make_room(tables: &mut Tables, patch: &Patch) -> Result<(), AllocError>
 /// Changes the tables. It takes no memory.
 fn apply(tables: &mut Tables, patch: Patch, weight: u64)
     requires placed { IsPlaced patch tables.old.sessions.items }
-    requires room { HasRoom patch tables.old.sessions }
+    requires room { HasRoom patch tables.old }
     requires few { units_after patch tables.old.units < 2 ^ 32 }
     ensures { IsPatched patch weight tables.old tables.new }
 {
     tables.weight = weight;
     match patch {
         Patch::Nothing => {}
-        Patch::Session { place, session } => tables.sessions[place] = session.into_inner(),
+        Patch::Session { place, session } => {
+            leave_names(&mut tables.unfinished, session.get());
+            tables.sessions[place] = session.into_inner();
+        }
         Patch::Success {
             place,
             session,
             clock,
         } => {
+            leave_names(&mut tables.unfinished, session.get());
             tables.sessions[place] = session.into_inner();
             tables.clock = clock;
         }
         Patch::New { place, session } => {
-            tables.units += kind_units(session.get().kind);
+            let r = session.get();
+            tables.units += kind_units(r.kind);
+            enter_names(&mut tables.unfinished, r.parts.as_slice(), r.id);
             let _ = tables.sessions.insert(place, session.into_inner());
         }
     }
@@ -75,14 +88,14 @@ fn perform(
     alloc: Global,
     rows: &mut Rows,
     tables: &mut Tables,
-    call: &CallRef,
+    call: &CheckedCall,
 ) -> Result<Reply, AllocError>
-    requires built { IsBuilt (call_at call.now) }
+    requires built { IsBuilt (call_of call.now) }
     requires stands { (w : World) × StandsFor rows.old tables.old w }
     ensures reply { (w : World) → StandsFor rows.old tables.old w
-        → IfOk result (λ reply. reply ≡ (step w (call_at call.now)).reply) }
+        → IfOk result (λ reply. reply ≡ (step w (call_of call.now)).reply) }
     ensures stands { (w : World) → StandsFor rows.old tables.old w
-        → OnOk result (StandsFor rows.new tables.new (step w (call_at call.now)).world) }
+        → OnOk result (StandsFor rows.new tables.new (step w (call_of call.now)).world) }
     ensures stays { (w : World) → StandsFor rows.old tables.old w
         → OnErr result (StandsFor rows.new tables.new w) }
 {
@@ -144,22 +157,30 @@ impl Core {
         let _ = &self.rows;
     }
 
-    /// One call of those that lines make so far, as each world answers it that the core stands for. Where memory runs out, the
-    /// core stands for the worlds that it stood for.
-    pub fn act(&mut self, alloc: Global, call: &CallRef) -> Result<Reply, AllocError>
-        requires built { IsBuilt (call_at call.now) }
+    /// One call of those that lines make so far, as each world answers it that the core stands for. Where memory runs out,
+    /// now or when the call was prepared, the core stands for the worlds that it stood for. `_lane` and `_step` are where
+    /// the call stands in a script: no core keeps a history yet, so no turn enters one.
+    pub fn act(&mut self, alloc: Global, _lane: u32, _step: u32, call: Prepared) -> Answer
+        requires built { ForSome call IsBuilt }
         ensures reply { (w : World) → StandsFor self.old.rows self.old.tables w
-            → IfOk result (λ reply. reply ≡ (step w (call_at call.now)).reply) }
+            → IfAnswered result (λ reply. IsSomeAnd call (λ c. reply ≡ (step w c).reply)) }
         ensures stands { (w : World) → StandsFor self.old.rows self.old.tables w
-            → OnOk result (StandsFor self.new.rows self.new.tables (step w (call_at call.now)).world) }
+            → IfAnswered result (λ _. IsSomeAnd call (λ c. StandsFor self.new.rows self.new.tables (step w c).world)) }
         ensures stays { (w : World) → StandsFor self.old.rows self.old.tables w
-            → OnErr result (StandsFor self.new.rows self.new.tables w) }
+            → IfNoMemory result (λ _. StandsFor self.new.rows self.new.tables w) }
+        ensures entered { IfNoMemory result (λ entered. entered ≡ false) }
     {
-        perform(alloc, &mut self.rows, &mut self.tables, call)
+        let Some(call) = call.into_call() else {
+            return Answer::NoMemory { entered: false };
+        };
+        match perform(alloc, &mut self.rows, &mut self.tables, &call) {
+            Ok(reply) => Answer::Answered(reply),
+            Err(_) => Answer::NoMemory { entered: false },
+        }
     }
 
-    /// What the last boot chose for each name of its image.
-    pub fn active(&self) -> &[Pick]
+    /// What the last boot chose for each name of its image. It takes no memory.
+    pub fn active(&self) -> &ActiveSet
         ensures { (w : World) → StandsFor self.now.rows self.now.tables w → result.now ≡ w.active }
     {
         &self.tables.active

@@ -1,25 +1,27 @@
 //! Why a part is refused beside what runs: `docs/calls.md`, "Submit".
-ghost use Rattle.std.specs.Prelude.{◌≡◌, ◌&&◌, Some, find};
+ghost use Rattle.std.specs.Prelude.{◌≡◌, List, Some, find};
 ghost use Rattle.std.specs.Option.{option_copied};
 ghost use Rattle.std.specs.Str.{bytes_eq};
-ghost use Rattle.apex_base.specs.Held.{is_unfinished};
-ghost use Rattle.apex_base.specs.Sessions.{names};
+ghost use Rattle.apex_base.specs.declared.records.Record.{Record};
 ghost use Rattle.apex_world.specs.Selection.{preinstalled};
 ghost use Rattle.apex_world.specs.Submit.{in_running, key_differs, overlap, active_version, downgrade, below};
 ghost use Rattle.apex_world.specs.Submit.{preinstalled_version};
 ghost use Rattle.apex_core.specs.Submitting.{part_refusal};
+ghost use Rattle.apex_core.specs.Unfinished.{AreUnfinished};
 
-use apex_base::{Name, Pick, Record, Refusal, Version};
+use crate::unfinished::{UnfinishedByName, unfinished_with};
+use apex_base::{Name, Pick, Refusal, Version};
 use apex_world::{Image, Package};
 
 /// Why the module of the one part of a submit is refused beside what runs.
 pub(crate) fn part_refusal(
     image: &Image,
-    sessions: &[Record],
+    unfinished: &UnfinishedByName,
     active: &[Pick],
     p: &Package,
 ) -> Option<Refusal>
-    ensures { result ≡ part_refusal (Some image.now) sessions.now active.now p.now }
+    ensures { (sessions : List Record) → AreUnfinished unfinished.now sessions
+        → result ≡ part_refusal (Some image.now) sessions active.now p.now }
 {
     if in_running(image, &p.name).is_none() {
         return Some(Refusal::NotPreinstalled { name: p.name });
@@ -27,7 +29,7 @@ pub(crate) fn part_refusal(
     if let Some(refusal) = key_differs(image, p) {
         return Some(refusal);
     }
-    if let Some(refusal) = overlap(sessions, p) {
+    if let Some(refusal) = overlap(unfinished, p) {
         return Some(refusal);
     }
     downgrade(active, image, p)
@@ -55,29 +57,11 @@ fn key_differs(image: &Image, p: &Package) -> Option<Refusal>
     }
 }
 
-fn overlap(sessions: &[Record], p: &Package) -> Option<Refusal>
-    ensures { result ≡ overlap sessions.now p.now }
+fn overlap(unfinished: &UnfinishedByName, p: &Package) -> Option<Refusal>
+    ensures { (sessions : List Record) → AreUnfinished unfinished.now sessions → result ≡ overlap sessions p.now }
 {
-    let r = overlapping(sessions, &p.name)?;
-    Some(Refusal::Overlap {
-        name: p.name,
-        id: r.id,
-    })
-}
-
-fn overlapping<'a>(sessions: &'a [Record], name: &Name) -> Option<&'a Record>
-    ensures { option_copied result ≡ find (λ r. is_unfinished r.state && names name.now r) sessions.now }
-{
-    sessions
-        .iter()
-        .find(|r| r.state.is_unfinished() && has_name(r, name))
-}
-
-/// Whether a part of the session has the name.
-fn has_name(r: &Record, name: &Name) -> bool
-    ensures { result ≡ names name.now r.now }
-{
-    r.parts.as_slice().iter().any(|p| p.name.is_same(name))
+    let id = unfinished_with(unfinished, &p.name)?;
+    Some(Refusal::Overlap { name: p.name, id })
 }
 
 fn downgrade(active: &[Pick], image: &Image, p: &Package) -> Option<Refusal>

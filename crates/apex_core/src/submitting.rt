@@ -7,31 +7,57 @@ ghost use Rattle.std.specs.List.Sorted.{IsStrictlySortedBy};
 ghost use Rattle.apex_base.specs.Numbers.{scale_units, scale_file_weight};
 ghost use Rattle.apex_base.specs.Sessions.{Ascend, session_of};
 ghost use Rattle.apex_world.specs.declared.calls.Call.TheVariants as calls;
+ghost use Rattle.apex_world.specs.Playable.{IsBuilt};
 ghost use Rattle.apex_world.specs.Submit.{or_else};
 ghost use Rattle.apex_world.specs.World.{World};
 ghost use Rattle.apex_core.specs.Core.{StandsFor};
+ghost use Rattle.apex_core.specs.declared.prepared.CheckedCall.TheVariants.{Submit};
 ghost use Rattle.apex_core.specs.Judged.{IsJudged, IsPlaced};
+ghost use Rattle.apex_core.specs.Prepared.{call_of};
 ghost use Rattle.apex_core.specs.Submitting.{IsEntered, plain_session, submitted_rows, too_heavy, too_many};
 ghost use Rattle.session_record.specs.Room.{HasRoom};
 
 use crate::admitting::admit;
+use crate::checked::CheckedModule;
 use crate::judged::{Judged, Patch};
+use crate::prepared::CheckedSubmit;
 use crate::rows::record_rows;
 use crate::tables::Tables;
-use apex_base::{Kind, Listed, Millis, Part, Print, Record, Refusal, SessionId, State, Target, Why, place_of};
+use apex_base::{
+    Kind, Listed, Millis, Part, Print, Record, Refusal, SessionId, State, Target, Why, place_of,
+};
 use apex_world::{Package, Reply, SharedModule};
 use package_store::put;
 use row_codec::Row;
 use row_map::Rows;
 use std::alloc::{AllocError, Global};
 
+/// A submit as lines make it so far: of one module, without children and rollback.
+pub(crate) fn judge_single(
+    alloc: Global,
+    rows: &Rows,
+    tables: &Tables,
+    submit: &CheckedSubmit,
+) -> Result<Judged, AllocError>
+    requires built { IsBuilt (call_of (Submit submit.now)) }
+    requires stands { (w : World) × StandsFor rows.now tables.now w }
+    ensures judged { (w : World) → StandsFor rows.now tables.now w → IfOk result (λ j. IsJudged j rows.now w (call_of (Submit submit.now))) }
+    ensures placed { IfOk result (λ j. IsPlaced j.patch tables.now.sessions.items) }
+    ensures ascending { IfOk result (λ j. IsStrictlySortedBy (slice_cmp nat_cmp) (keys_of j.rows.items)) }
+{
+    match submit.parts.as_slice() {
+        [part] => judge_submit(alloc, rows, tables, submit.id, part),
+        _ => unreachable!(),
+    }
+}
+
 /// Submit: a new session's record and the files of its module, where nothing refuses them.
-pub(crate) fn judge_submit(
+fn judge_submit(
     alloc: Global,
     rows: &Rows,
     tables: &Tables,
     id: SessionId,
-    part: &SharedModule,
+    part: &CheckedModule,
 ) -> Result<Judged, AllocError>
     requires stands { (w : World) × StandsFor rows.now tables.now w }
     ensures judged { (w : World) → StandsFor rows.now tables.now w → IfOk result (λ j. IsJudged j rows.now w (calls.Submit id [] false (part.now ∷ []))) }
@@ -43,7 +69,7 @@ pub(crate) fn judge_submit(
         Err(Why::Fault(refusal)) => return Ok(Judged::quiet(alloc, Reply::Refused(refusal))),
         Err(Why::NoMemory) => return Err(AllocError),
     };
-    if let Some(refusal) = over_scale(tables, part.weight()) {
+    if let Some(refusal) = over_scale(tables, part.content().weight()) {
         return Ok(Judged::quiet(alloc, Reply::Refused(refusal)));
     }
     enter(alloc, tables, id, &p)

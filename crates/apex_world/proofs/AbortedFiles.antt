@@ -1,14 +1,12 @@
 -- An abort takes all modules of a session away that no rollback made. Callers want `aborted_files_go`.
 use Rattle.std.proofs.Common.{◌≡◌, ◌≢◌, ◌⊎◌, ℕ, true, false, ◌&&◌, List, map, Some, None, cond, sym, ap}
-use Rattle.std.proofs.Common.{◌∙◌, refl, inl, inr}
+use Rattle.std.proofs.Common.{◌∙◌, inl, inr}
 use Rattle.std.specs.Prelude.{not, nat_lt, Bool}
 use Rattle.std.proofs.lemmas.Bool.{false≢true, false_from_ne_true, and_parts, and_from}
 use Rattle.std.proofs.lemmas.Bool.{cases_eq}
 use Rattle.apex_base.specs.declared.numbers.SessionId.{SessionId}
 use Rattle.apex_base.specs.declared.records.Part.{Part}
 use Rattle.apex_base.specs.declared.records.Record.{Record}
-use Rattle.apex_base.specs.declared.records.State.{State}
-use Rattle.apex_base.specs.declared.records.State.TheVariants as state
 use Rattle.apex_base.specs.declared.records.Target.TheVariants as targets
 use Rattle.apex_base.specs.Commit.{is_waiting}
 use Rattle.apex_base.specs.Held.{is_unfinished, is_standing, is_success, latest}
@@ -30,16 +28,7 @@ use Rattle.apex_world.proofs.LatestLemmas.{named_by, latest_is}
 use Rattle.apex_world.proofs.OpenedSessions.{one_session}
 use Rattle.apex_world.proofs.OwnTargets.{own_at, target_session}
 use Rattle.apex_world.proofs.PartOwners.{owned}
-
-waits_no_success : (s : State) → is_waiting s ≡ true → is_success s ≡ false
-waits_no_success state.Verified e = refl
-waits_no_success state.Staged e = refl
-waits_no_success state.Activated e = absurd (cc)
-waits_no_success state.ActivationFailed e = absurd (cc)
-waits_no_success state.Success e = absurd (cc)
-waits_no_success state.RevertInProgress e = absurd (cc)
-waits_no_success state.Reverted e = absurd (cc)
-waits_no_success state.Aborted e = absurd (cc)
+use Rattle.apex_world.proofs.StateFacts.{waits_no_success}
 
 module _ (w : World) (law : Lawful w) (r : Record) (h : In r w.sessions) (waits : is_waiting r.state ≡ true)
     (ordinary : undoes r.kind ≡ false) where

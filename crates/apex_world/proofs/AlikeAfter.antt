@@ -17,7 +17,7 @@ use Rattle.apex_base.proofs.MemberLemmas.{any_in, in_any}
 use Rattle.apex_world.specs.Selection.{submitted_by}
 use Rattle.apex_world.specs.StoredAlike.{KeepsPast, AreAlikeInParts}
 use Rattle.apex_world.specs.World.{World, era}
-use Rattle.apex_world.proofs.AlikeLemmas.{other}
+use Rattle.apex_world.proofs.AlikeLemmas.{alike_with, other}
 use Rattle.apex_world.proofs.HeldModules.{this_module}
 use Rattle.apex_world.proofs.KeptLemmas.{AreOrdered}
 use Rattle.apex_world.proofs.KeptLess.{IsFresh, Carries, Comes, Nothing, Before, New, kept_less}
@@ -103,20 +103,5 @@ module _ (w v : World) (a : AreAlikeInParts w v) (ss' : List Record) (law : AreO
   pub alike_after : NothingNew w.sessions ss' → NoPastNew w.sessions ss' → (clock : ℕ)
       → AreAlikeInParts (record w { sessions = ss'; clock = clock })
       (record (other w v a) { sessions = ss'; clock = clock })
-  alike_after new past clock = record {
-    stored = record {
-      sessions = refl;
-      modules = same_modules new;
-      contents = refl;
-      past = same_past past;
-      boots = a.stored.boots;
-      moments = a.stored.moments;
-      watches = refl;
-    };
-    scale = refl;
-    image = refl;
-    observers = refl;
-    active = refl;
-    clock = refl;
-    failures = a.failures;
-  }
+  alike_after new past clock =
+      alike_with w v a ss' w.modules v.modules w.contents w.watches clock (same_modules new) (same_past past)

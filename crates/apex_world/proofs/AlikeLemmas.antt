@@ -8,8 +8,9 @@ use Rattle.apex_base.specs.declared.records.Pick.{Pick}
 use Rattle.apex_base.specs.declared.records.Record.{Record}
 use Rattle.apex_base.specs.declared.refusal.Refusal.{Refusal}
 use Rattle.apex_base.specs.Results.{◌>>=◌}
-use Rattle.apex_base.specs.Sessions.{has_id}
-use Rattle.apex_base.specs.Tables.{with_value, without_value}
+use Rattle.apex_base.specs.Members.{In}
+use Rattle.apex_base.specs.Sessions.{has_id, names}
+use Rattle.apex_base.specs.Tables.{value_of, with_value, without_value}
 use Rattle.apex_world.specs.declared.calls.Call.{Call}
 use Rattle.apex_world.specs.declared.calls.Call.TheVariants as calls
 use Rattle.apex_world.specs.declared.calls.Image.{Image}
@@ -22,10 +23,12 @@ use Rattle.apex_world.specs.Advance.{told, state_of}
 use Rattle.apex_world.specs.Likeness.{leaves_sessions}
 use Rattle.apex_world.specs.Step.{step}
 use Rattle.apex_world.specs.Stepped.{Stepped, refused, replied, answered}
-use Rattle.apex_world.specs.StoredAlike.{AreAlikeInParts, AreSteppedAlike}
+use Rattle.apex_world.specs.StoredAlike.{AreAlikeInParts, AreSteppedAlike, KeepsPast}
 use Rattle.apex_world.specs.Submit.{pass}
 use Rattle.apex_world.specs.Watching.{no_observer, first_unknown, with_watches, watch_length, watched, watch}
-use Rattle.apex_world.specs.World.{World, Contents, Watches}
+use Rattle.apex_world.specs.declared.world.Submission.{Submission}
+use Rattle.apex_world.specs.World.{World, Contents, Watches, era}
+use Rattle.apex_world.proofs.OpenedModules.{HaveSameFiles}
 use Rattle.apex_world.proofs.StoredAlikeLemmas.{rows_agree, stored_alike}
 
 -- Lawful worlds are alike where they are alike in parts
@@ -106,16 +109,25 @@ module _ (w v : World) (a : AreAlikeInParts w v) where
       ∙ ap (λ x. of_parts v.scale v.sessions v.contents v.watches v.image v.observers x w.clock) a.active
       ∙ ap (λ x. of_parts v.scale v.sessions v.contents v.watches v.image v.observers v.active x) a.clock
 
-  -- the same with other data, watches and clock on either side
-  pub with_tables : (contents : Contents) (watches : Watches) (clock : ℕ)
-      → AreAlikeInParts (record w { contents = contents; watches = watches; clock = clock })
-      (record other { contents = contents; watches = watches; clock = clock })
-  with_tables contents watches clock = record {
+  -- with other sessions, modules, data, watches and clock they are alike in parts, where their modules and earlier data
+  -- are alike
+  pub alike_with : (ss : List Record) (ms ms' : List Submission) (contents : Contents) (watches : Watches) (clock : ℕ)
+      → HaveSameFiles ss ms ms'
+      → ((r : Record) (name key : List ℕ) → In r ss → KeepsPast ss r → names name r ≡ true
+      → value_of (era w.eras r.activation) name key ≡ value_of (era v.eras r.activation) name key)
+      → AreAlikeInParts (record w {
+        sessions = ss;
+        modules = ms;
+        contents = contents;
+        watches = watches;
+        clock = clock;
+      }) (record other { sessions = ss; modules = ms'; contents = contents; watches = watches; clock = clock })
+  alike_with ss ms ms' contents watches clock modules past = record {
     stored = record {
       sessions = refl;
-      modules = a.stored.modules;
+      modules = modules;
       contents = refl;
-      past = a.stored.past;
+      past = past;
       boots = a.stored.boots;
       moments = a.stored.moments;
       watches = refl;
@@ -127,6 +139,13 @@ module _ (w v : World) (a : AreAlikeInParts w v) where
     clock = refl;
     failures = a.failures;
   }
+
+  -- the same with other data, watches and clock on either side
+  pub with_tables : (contents : Contents) (watches : Watches) (clock : ℕ)
+      → AreAlikeInParts (record w { contents = contents; watches = watches; clock = clock })
+      (record other { contents = contents; watches = watches; clock = clock })
+  with_tables contents watches clock =
+      alike_with w.sessions w.modules v.modules contents watches clock a.stored.modules a.stored.past
 
   pub unchanged : AreAlikeInParts w other
   unchanged = with_tables w.contents w.watches w.clock

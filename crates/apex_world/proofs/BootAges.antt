@@ -9,8 +9,8 @@ use Rattle.apex_base.specs.declared.records.State.{State}
 use Rattle.apex_base.specs.declared.records.State.TheVariants as state
 use Rattle.apex_base.specs.Held.{is_unfinished, is_undoable, is_standing, is_success}
 use Rattle.apex_world.proofs.BootTurns.{Turns, Rests, Activates, Remains, Fails, Reverts, rests}
-use Rattle.apex_world.proofs.BootTurns.{undoable_unfinished}
 use Rattle.apex_world.proofs.KeptLemmas.{undoable_no_success}
+use Rattle.apex_world.proofs.StateFacts.{undoable_unfinished}
 
 -- the boot of this number activated the session
 pub record IsYoung (b : ℕ) (r s : Record) : Type 0 where

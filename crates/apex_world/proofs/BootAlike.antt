@@ -26,9 +26,10 @@ use Rattle.apex_world.specs.World.{World, Contents}
 use Rattle.apex_world.proofs.AlikeAfter.{same_modules}
 use Rattle.apex_world.proofs.AlikeLemmas.{other, other_is, unchanged}
 use Rattle.apex_world.proofs.BootDataAlike.{restored_alike}
-use Rattle.apex_world.proofs.BootFollows.{become_was, mid_new}
+use Rattle.apex_world.proofs.BootFollows.{mid_new}
 use Rattle.apex_world.proofs.BootOrdered.{ordered_booted, carries_booted, nothing_booted, success_booted}
 use Rattle.apex_world.proofs.BootPast.{number_alike, past_booted}
+use Rattle.apex_world.proofs.BootRollbacks.{settles}
 use Rattle.apex_world.proofs.BootTurnsAlike.{become_alike, chosen_alike}
 use Rattle.apex_world.proofs.CallStays.{among_eligible}
 use Rattle.apex_world.proofs.CommitStays.{ascend_filter}
@@ -138,7 +139,7 @@ module _ (w v : World) (a : AreAlikeInParts w v) (law : Lawful w) (order : BootO
   can_loop x h =
       let (i, e) = among_eligible mid x h in
       let (r, j, is) = in_map_back f x w.sessions i in
-      let was = become_was mounts w.modules order (length eras) r
+      let was = (settles mounts w.modules order (length eras) r).available
       (ap (λ (x : Record). is_available x.rollback) is ∙ e) in
       record {
         among = i;

@@ -1,6 +1,6 @@
 -- After a boot the image has each name of a session that is activated or can be rolled back, and so these names are
 -- few. Callers want `image_named`, `undoable_few`, `available_few` and `waiting_few`.
-use Rattle.std.proofs.Common.{◌≡◌, ℕ, ◌≤◌, ◌||◌, Bool, true, List, [], ◌∷◌}
+use Rattle.std.proofs.Common.{◌≡◌, ℕ, ◌≤◌, ◌||◌, Bool, true, List}
 use Rattle.std.proofs.Common.{sym, ap, subst, ◌∙◌, inl, inr, is_some}
 use Rattle.std.specs.List.{list_all}
 use Rattle.std.specs.Str.{bytes_eq}
@@ -29,14 +29,10 @@ use Rattle.apex_world.proofs.BootLaws.{ids_after, parts_after, alone_after, roll
 use Rattle.apex_world.proofs.BootRollbacks.{settled_available}
 use Rattle.apex_world.proofs.BootSessions.{part_works}
 use Rattle.apex_world.proofs.BootTurned.{activated_is, turned_staged}
-use Rattle.apex_world.proofs.BootTurns.{undoable_unfinished, undoable_turned, activated_works}
+use Rattle.apex_world.proofs.BootTurns.{undoable_turned, activated_works}
 use Rattle.apex_world.proofs.NameCounts.{names_within}
 use Rattle.apex_world.proofs.PlainLemmas.{reverted_keeps}
-
-all_in : {X : Type 0} (p : X → Bool) (xs : List X) (x : X) → list_all p xs ≡ true → In x xs → p x ≡ true
-all_in p [] x e h = absurd h
-all_in p (y ∷ ys) x e (inl same) = ap p (sym same) ∙ (and_parts (p y) (list_all p ys) e).0
-all_in p (y ∷ ys) x e (inr h) = all_in p ys x (and_parts (p y) (list_all p ys) e).1 h
+use Rattle.apex_world.proofs.StateFacts.{all_in, undoable_unfinished}
 
 module _ (w : World) (law : Lawful w) (order : BootOrder) (o : IsOrderOf w order) (mounts : Mounts) where
   abbrev step : Record → Record

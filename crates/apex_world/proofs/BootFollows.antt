@@ -1,33 +1,29 @@
 -- What a boot leaves of sessions: `boot_follows`.
-use Rattle.std.proofs.Common.{◌≡◌, ◌≢◌, ℕ, Bool, true, false, cond, List, ◌∷◌, length, map, Option, Some, None, sym, ap, subst, ◌∙◌, refl}
+use Rattle.std.proofs.Common.{◌≡◌, ◌≢◌, Bool, true, false, cond, List, ◌∷◌, length, map, Some, None, sym, ap, subst}
+use Rattle.std.proofs.Common.{◌∙◌}
 use Rattle.apex_base.specs.declared.numbers.SessionId.{SessionId}
 use Rattle.apex_base.specs.declared.records.Record.{Record}
-use Rattle.apex_base.specs.declared.records.RollbackState.{RollbackState}
-use Rattle.apex_base.specs.declared.records.RollbackState.TheVariants as rollbacks
-use Rattle.apex_base.specs.declared.records.State.{State}
-use Rattle.apex_base.specs.declared.records.State.TheVariants as state
 use Rattle.apex_base.specs.Held.{is_available}
 use Rattle.apex_base.specs.Members.{In, EachPair}
-use Rattle.apex_base.specs.Rollbacks.{not_enabled, no_longer, given_up, is_expired, is_eligible}
+use Rattle.apex_base.specs.Rollbacks.{is_eligible}
 use Rattle.apex_base.specs.Sessions.{has_id}
 use Rattle.apex_base.specs.Windows.{is_looping}
 use Rattle.apex_base.proofs.MemberLemmas.{in_map_back}
 use Rattle.apex_base.proofs.SessionLemmas.{ascend_map}
 use Rattle.apex_world.specs.declared.calls.BootOrder.{BootOrder}
-use Rattle.apex_world.specs.declared.world.Submission.{Submission}
-use Rattle.apex_world.specs.Boot.{reverted, rebuilt, is_same_build, keeps_rollback, booted, kept_in, become, counted, started, after_loop, boot_world, loop_trigger}
+use Rattle.apex_world.specs.Boot.{become, counted, started, after_loop, boot_world, loop_trigger}
 use Rattle.apex_world.specs.Follows.{IsKeptAs, Becomes, Leads, Follows}
 use Rattle.apex_world.specs.Lawful.{ids_of, HaveIds, HaveRollbackSessions}
 use Rattle.apex_world.specs.Rows.{undoes}
-use Rattle.apex_world.specs.Selection.{Mounts, cause_of}
+use Rattle.apex_world.specs.Selection.{Mounts}
 use Rattle.apex_world.specs.Trigger.{eligible}
 use Rattle.apex_world.specs.World.{World}
+use Rattle.apex_world.proofs.BootRollbacks.{settles}
 use Rattle.apex_world.proofs.BootStays.{Boots, become_boots, boots_becomes, boots_then, Waits}
 use Rattle.apex_world.proofs.CallStays.{trigger_follows_new, among_eligible}
 use Rattle.apex_world.proofs.CommitStays.{ascend_filter}
 use Rattle.apex_world.proofs.LeadsLemmas.{same_ids, leads_map, leads_then, leads_as}
 use Rattle.apex_world.proofs.NewIds.{AreNew, rollback_new}
-use Rattle.apex_world.proofs.PlainLemmas.{reverted_keeps, activated_keeps}
 use Rattle.apex_base.specs.Commit.{rollback_id}
 
 -- Ids after a step of each session by itself
@@ -59,67 +55,6 @@ module _ (ss : List Record) (f : Record → Record) (keeps : (r : Record) → Is
       ap (has_id id) (sym e) ∙ same_ids id q (f q) (keeps q)
       ∙ fresh q id i (subst (λ (xs : List SessionId). In id (map rollback_id xs)) (ids_kept r (f r) (keeps r)) u)
 
--- No boot makes a rollback available
-
-given_up_not : (o : Option RollbackState) → is_available (given_up o) ≡ true → ⊥
-given_up_not None e = absurd (cc)
-given_up_not (Some rollbacks.Enabling) e = absurd (cc)
-given_up_not (Some rollbacks.Available) e = absurd (cc)
-given_up_not (Some rollbacks.Committed) e = absurd (cc)
-given_up_not (Some rollbacks.Deleted) e = absurd (cc)
-
-no_longer_not : (o : Option RollbackState) → is_available (no_longer o) ≡ true → ⊥
-no_longer_not None e = absurd (cc)
-no_longer_not (Some rollbacks.Enabling) e = absurd (cc)
-no_longer_not (Some rollbacks.Available) e = absurd (cc)
-no_longer_not (Some rollbacks.Committed) e = absurd (cc)
-no_longer_not (Some rollbacks.Deleted) e = absurd (cc)
-
-not_enabled_was : (o : Option RollbackState) → is_available (not_enabled o) ≡ true → is_available o ≡ true
-not_enabled_was None e = e
-not_enabled_was (Some rollbacks.Enabling) e = absurd (cc)
-not_enabled_was (Some rollbacks.Available) e = refl
-not_enabled_was (Some rollbacks.Committed) e = e
-not_enabled_was (Some rollbacks.Deleted) e = e
-
-kept_was : (s : State) (o : Option RollbackState) → is_available (kept_in s o) ≡ true → is_available o ≡ true
-kept_was state.Verified o e = e
-kept_was state.Staged o e = e
-kept_was state.Activated o e = e
-kept_was state.ActivationFailed o e = not_enabled_was o e
-kept_was state.Success o e = e
-kept_was state.RevertInProgress o e = e
-kept_was state.Reverted o e = not_enabled_was o e
-kept_was state.Aborted o e = e
-
-aged_was : (b : Bool) (s : State) (o : Option RollbackState) → is_available (cond b (no_longer o) (kept_in s o)) ≡ true
-    → is_available o ≡ true
-aged_was true s o e = absurd (no_longer_not o e)
-aged_was false s o e = kept_was s o e
-
-rebuilt_was : (b : Bool) (o : Option RollbackState) → is_available (cond b o (given_up o)) ≡ true
-    → is_available o ≡ true
-rebuilt_was true o e = e
-rebuilt_was false o e = absurd (given_up_not o e)
-
-module _ (mounts : Mounts) (modules : List Submission) (order : BootOrder) (n : ℕ) (r : Record) where
-  abbrev second : Record
-  second = reverted r
-
-  abbrev third : Record
-  third = rebuilt order.image second
-
-  abbrev last : Record
-  last = booted mounts modules order.image n r
-
-  pub become_was : is_available (become mounts modules order n r).rollback ≡ true → is_available r.rollback ≡ true
-  become_was e =
-      let a = aged_was (is_expired order.time last) last.state last.rollback e in
-      let b = (activated_keeps third.state (is_same_build order.image third)
-      (cause_of mounts modules order.image.modules third.parts) n third).1 in
-      let c = rebuilt_was (keeps_rollback order.image second) second.rollback (ap is_available (sym b) ∙ a) in
-      ap is_available (sym (reverted_keeps r.state r).1) ∙ c
-
 -- Boots
 
 module _ (w : World) (ids : HaveIds w.sessions) (undone : HaveRollbackSessions w.sessions) (order : BootOrder)
@@ -140,7 +75,7 @@ module _ (w : World) (ids : HaveIds w.sessions) (undone : HaveRollbackSessions w
   mid_new x h =
       let (i, e) = among_eligible mid x h in
       let (r, j, f) = in_map_back turn x w.sessions i in
-      let was = become_was mounts w.modules order (length (counted w).eras) r (ap
+      let was = (settles mounts w.modules order (length (counted w).eras) r).available (ap
       (λ (x : Record). is_available x.rollback) f ∙ e) in
       subst (AreNew mid) f (new_map w.sessions turn
       (λ r. (turn_boots r).kept) r (rollback_new w.sessions ids undone r j was))

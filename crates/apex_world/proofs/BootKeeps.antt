@@ -23,13 +23,14 @@ use Rattle.apex_world.specs.World.{World}
 use Rattle.apex_world.proofs.BootFades.{turn_staged}
 use Rattle.apex_world.proofs.BootLaws.{number, turn, after, keeps, way, cause_for, found_map}
 use Rattle.apex_world.proofs.BootModules.{kept_before}
-use Rattle.apex_world.proofs.BootRollbacks.{Settles, settles}
+use Rattle.apex_world.proofs.BootRollbacks.{settles}
+use Rattle.apex_world.proofs.RollbackStates.{Settles}
 use Rattle.apex_world.proofs.BootRuns.{started_running}
 use Rattle.apex_world.proofs.BootTurned.{turned_activation, turned_undoable}
 use Rattle.apex_world.proofs.CommitKeeps.{triggered_keeps}
-use Rattle.apex_world.proofs.CommitWays.{available_may}
 use Rattle.apex_world.proofs.KeptRows.{Was, KeepsPast, KeepsRows, keeps_on}
 use Rattle.apex_world.proofs.StagedSome.{staged_some}
+use Rattle.apex_world.proofs.MayHappen.{available_may}
 
 may_enabling : (ss : List Record) (id : SessionId) (o : Option RollbackState) → is_enabling o ≡ true
     → may_happen ss id o ≡ true

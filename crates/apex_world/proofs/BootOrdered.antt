@@ -22,13 +22,13 @@ use Rattle.apex_world.specs.Lawful.{Lawful, AreActivatedApart}
 use Rattle.apex_world.specs.Selection.{Mounts, cause_of}
 use Rattle.apex_world.specs.World.{World}
 use Rattle.apex_world.proofs.AlikeAfter.{NothingNew}
-use Rattle.apex_world.proofs.BootFollows.{become_was}
+use Rattle.apex_world.proofs.BootRollbacks.{settles}
 use Rattle.apex_world.proofs.BootSessions.{become_keeps}
 use Rattle.apex_world.proofs.BootTurns.{Turns, turns}
-use Rattle.apex_world.proofs.BootTurns.{undoable_unfinished}
 use Rattle.apex_world.proofs.KeptLemmas.{AreOrdered, stands_activated}
 use Rattle.apex_world.proofs.KeptLess.{Goes, Carries}
 use Rattle.apex_world.proofs.BootAges.{IsYoung, IsOld, aged, turn_unfinished, turn_stays, turn_came}
+use Rattle.apex_world.proofs.StateFacts.{undoable_unfinished}
 
 module _ (w : World) (law : Lawful w) (order : BootOrder) (mounts : Mounts) where
   abbrev number : ℕ
@@ -136,7 +136,7 @@ module _ (w : World) (law : Lawful w) (order : BootOrder) (mounts : Mounts) wher
     stays = turn_stays (cause r) number r (f r) (turn r);
     came = turn_came (cause r) number r (f r) (turn r);
     available = λ e.
-        let was = become_was mounts w.modules order number r e in (
+        let was = (settles mounts w.modules order number r).available e in (
           or_right (is_undoable r.state) (is_available r.rollback) was,
           (turn_stays (cause r) number r (f r) (turn r) ((law.rollbacks.each r h).available was)).1,
         );

@@ -25,8 +25,10 @@ use Rattle.apex_world.specs.StoredAlike.{KeepsPast, AreAlikeInParts}
 use Rattle.apex_world.specs.World.{World, Contents, era}
 use Rattle.apex_world.proofs.BootAges.{IsYoung, IsOld}
 use Rattle.apex_world.proofs.BootOrdered.{turn, keeps, ages, names_back}
-use Rattle.apex_world.proofs.BootFades.{era_front, era_last, Fades, become_fades, turn_staged}
+use Rattle.apex_world.proofs.BootFades.{era_front, era_last, turn_staged}
 use Rattle.apex_world.proofs.StagedSome.{staged_some}
+use Rattle.apex_world.proofs.BootRollbacks.{settles}
+use Rattle.apex_world.proofs.RollbackStates.{Fades}
 
 module _ (w : World) (law : Lawful w) (order : BootOrder) (mounts : Mounts) where
   abbrev number : ℕ
@@ -68,7 +70,7 @@ module _ (w : World) (law : Lawful w) (order : BootOrder) (mounts : Mounts) wher
       inl (and_from (rolls_back r.kind && not (eqb r.activation 0)) (may_happen w.sessions r.id r.rollback)
       (ap (λ n. rolls_back r.kind && not (eqb n 0)) (sym old.activation)
       ∙ ap (λ k. rolls_back k && not (eqb (f r).activation 0)) (sym l.kind) ∙ first)
-      (may_faded r.id (f r).id r.rollback (f r).rollback (become_fades mounts w.modules order number r) m))
+      (may_faded r.id (f r).id r.rollback (f r).rollback ((settles mounts w.modules order number r).fades) m))
   keeps_old r old (inr k) =
       let l = keeps w law order mounts r in
       let (kind, u) = and_parts (undoes (f r).kind) (is_undoable (f r).state) k in

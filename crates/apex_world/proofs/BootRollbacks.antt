@@ -1,85 +1,22 @@
 -- What a boot makes of the rollback of one session: it stays what it is, or is deleted. Callers want `settles`,
 -- `settled_available` and `settled_enabling`.
-use Rattle.std.proofs.Common.{◌≡◌, ℕ, Bool, true, false, cond, List, Option, Some, None, sym, ap, ◌∙◌, refl, is_some}
+use Rattle.std.proofs.Common.{◌≡◌, ℕ, Bool, true, false, cond, List, Option, sym, ap, ◌∙◌, refl}
 use Rattle.std.specs.Prelude.{nat_le, ◌+◌}
 use Rattle.std.proofs.lemmas.Bool.{and_parts}
 use Rattle.apex_base.specs.declared.records.Record.{Record}
 use Rattle.apex_base.specs.declared.records.RollbackState.{RollbackState}
-use Rattle.apex_base.specs.declared.records.RollbackState.TheVariants as rollbacks
 use Rattle.apex_base.specs.declared.records.State.{State}
 use Rattle.apex_base.specs.declared.records.State.TheVariants as state
 use Rattle.apex_base.specs.Held.{is_available}
-use Rattle.apex_base.specs.Rollbacks.{is_enabling, is_committed, not_enabled, no_longer, given_up, is_expired, lifetime}
+use Rattle.apex_base.specs.Rollbacks.{is_enabling, no_longer, given_up, is_expired, lifetime}
 use Rattle.apex_world.specs.declared.calls.BootOrder.{BootOrder}
 use Rattle.apex_world.specs.declared.world.Submission.{Submission}
 use Rattle.apex_world.specs.Boot.{reverted, rebuilt}
 use Rattle.apex_world.specs.Boot.{booted, kept_in, become, is_same_build, keeps_rollback}
 use Rattle.apex_world.specs.Selection.{Mounts, cause_of}
 use Rattle.apex_world.proofs.PlainLemmas.{reverted_keeps, activated_keeps}
-
--- Rollbacks
-
--- a rollback stays what it is, or is deleted before it was committed
-pub record Settles (o p : Option RollbackState) : Type 0 where
-  pub some : is_some p ≡ is_some o
-  pub committed : is_committed p ≡ is_committed o
-  pub available : is_available p ≡ true → is_available o ≡ true
-  pub enabling : is_enabling p ≡ true → is_enabling o ≡ true
-
-settles_same : (o p : Option RollbackState) → p ≡ o → Settles o p
-settles_same o p e = record {
-  some = ap is_some e;
-  committed = ap is_committed e;
-  available = λ f. ap is_available (sym e) ∙ f;
-  enabling = λ f. ap is_enabling (sym e) ∙ f;
-}
-
-settles_on : (o p q : Option RollbackState) → Settles o p → Settles p q → Settles o q
-settles_on o p q a b = record {
-  some = b.some ∙ a.some;
-  committed = b.committed ∙ a.committed;
-  available = λ e. a.available (b.available e);
-  enabling = λ e. a.enabling (b.enabling e);
-}
-
-settles_given_up : (o : Option RollbackState) → Settles o (given_up o)
-settles_given_up None = settles_same None None refl
-settles_given_up (Some rollbacks.Enabling) =
-    record { some = refl; committed = refl; available = λ e. absurd (cc); enabling = λ e. refl }
-settles_given_up (Some rollbacks.Available) =
-    record { some = refl; committed = refl; available = λ e. refl; enabling = λ e. absurd (cc) }
-settles_given_up (Some rollbacks.Committed) = settles_same _ _ refl
-settles_given_up (Some rollbacks.Deleted) = settles_same _ _ refl
-
-settles_no_longer : (o : Option RollbackState) → Settles o (no_longer o)
-settles_no_longer None = settles_same None None refl
-settles_no_longer (Some rollbacks.Enabling) = settles_same _ _ refl
-settles_no_longer (Some rollbacks.Available) =
-    record { some = refl; committed = refl; available = λ e. refl; enabling = λ e. absurd (cc) }
-settles_no_longer (Some rollbacks.Committed) = settles_same _ _ refl
-settles_no_longer (Some rollbacks.Deleted) = settles_same _ _ refl
-
-settles_not_enabled : (o : Option RollbackState) → Settles o (not_enabled o)
-settles_not_enabled None = settles_same None None refl
-settles_not_enabled (Some rollbacks.Enabling) =
-    record { some = refl; committed = refl; available = λ e. absurd (cc); enabling = λ e. refl }
-settles_not_enabled (Some rollbacks.Available) = settles_same _ _ refl
-settles_not_enabled (Some rollbacks.Committed) = settles_same _ _ refl
-settles_not_enabled (Some rollbacks.Deleted) = settles_same _ _ refl
-
-settles_kept : (s : State) (o : Option RollbackState) → Settles o (kept_in s o)
-settles_kept state.Verified o = settles_same o o refl
-settles_kept state.Staged o = settles_same o o refl
-settles_kept state.Activated o = settles_same o o refl
-settles_kept state.ActivationFailed o = settles_not_enabled o
-settles_kept state.Success o = settles_same o o refl
-settles_kept state.RevertInProgress o = settles_same o o refl
-settles_kept state.Reverted o = settles_not_enabled o
-settles_kept state.Aborted o = settles_same o o refl
-
-settles_if : (b : Bool) (o p q : Option RollbackState) → Settles o p → Settles o q → Settles o (cond b p q)
-settles_if true o p q a b = a
-settles_if false o p q a b = b
+use Rattle.apex_world.proofs.RollbackStates.{Settles, settles_same, settles_on, settles_given_up, settles_no_longer}
+use Rattle.apex_world.proofs.RollbackStates.{settles_kept, settles_if, not_enabled_not, given_up_not, available_longer}
 
 -- the state of a session that failed or was reverted, for which no rollback is kept
 abbrev pub gives_up : State → Bool
@@ -91,27 +28,6 @@ gives_up state.Success = false
 gives_up state.RevertInProgress = false
 gives_up state.Reverted = true
 gives_up state.Aborted = false
-
-not_enabled_not : (o : Option RollbackState) → is_enabling (not_enabled o) ≡ true → ⊥
-not_enabled_not None e = absurd (cc)
-not_enabled_not (Some rollbacks.Enabling) e = absurd (cc)
-not_enabled_not (Some rollbacks.Available) e = absurd (cc)
-not_enabled_not (Some rollbacks.Committed) e = absurd (cc)
-not_enabled_not (Some rollbacks.Deleted) e = absurd (cc)
-
-given_up_not : (o : Option RollbackState) → is_available (given_up o) ≡ true → ⊥
-given_up_not None e = absurd (cc)
-given_up_not (Some rollbacks.Enabling) e = absurd (cc)
-given_up_not (Some rollbacks.Available) e = absurd (cc)
-given_up_not (Some rollbacks.Committed) e = absurd (cc)
-given_up_not (Some rollbacks.Deleted) e = absurd (cc)
-
-available_longer : (o : Option RollbackState) → is_available o ≡ true → is_enabling (no_longer o) ≡ true → ⊥
-available_longer None e f = absurd (cc)
-available_longer (Some rollbacks.Enabling) e f = absurd (cc)
-available_longer (Some rollbacks.Available) e f = absurd (cc)
-available_longer (Some rollbacks.Committed) e f = absurd (cc)
-available_longer (Some rollbacks.Deleted) e f = absurd (cc)
 
 kept_enabling : (s : State) (o : Option RollbackState) → is_enabling (kept_in s o) ≡ true → gives_up s ≡ false
 kept_enabling state.Verified o e = refl

@@ -17,7 +17,7 @@ use Rattle.apex_world.specs.declared.world.Submission.{Submission}
 use Rattle.apex_world.specs.Boot.{reverted_in, reverted, rebuilt_in, rebuilt, is_same_build, activated_in, booted, become}
 use Rattle.apex_world.specs.Follows.{IsKeptAs, GoesTo, Becomes}
 use Rattle.apex_world.specs.Selection.{Mounts, cause_of}
-use Rattle.apex_world.proofs.LeadsLemmas.{same, kept_on}
+use Rattle.apex_world.proofs.LeadsLemmas.{changed, same, kept_on}
 use Rattle.apex_world.proofs.PlainLemmas.{booted_keeps}
 
 -- Boots
@@ -137,7 +137,7 @@ waits_same r = record { kept = same r; goes = inl refl }
 fails_if : (b : Bool) (x r : Record) → is_superseded x r ≡ b → Waits r (cond b (superseded (rollback_id x.id) r) r)
 fails_if false x r e = waits_same r
 fails_if true x r e = record {
-  kept = record { id = refl; children = refl; kind = refl; parts = refl; print = refl };
+  kept = changed r;
   goes = inr ((and_parts (is_waiting r.state) (shares x r) e).0, refl);
 }
 
@@ -146,7 +146,7 @@ commits_if : (b : Bool) (x r : Record) → Waits r (cond b (record r {
       Some rollbacks.Committed;
 }) (if is_superseded x r then superseded (rollback_id x.id) r else r))
 commits_if true x r = record {
-  kept = record { id = refl; children = refl; kind = refl; parts = refl; print = refl };
+  kept = changed r;
   goes = inl refl;
 }
 commits_if false x r = fails_if (is_superseded x r) x r refl

@@ -9,19 +9,9 @@ use Rattle.apex_base.specs.Held.{is_undoable, is_unfinished, is_standing, is_suc
 use Rattle.apex_world.specs.Lawful.{HasActivation, AreActivatedApart, NotBothUnfinished, never_activated, is_verified}
 use Rattle.apex_world.specs.Rows.{is_staged}
 use Rattle.apex_world.specs.Running.{is_activated}
-use Rattle.apex_world.proofs.BootTurns.{Turns, Rests, Activates, Remains, Fails, Reverts, rests, undoable_unfinished}
-use Rattle.apex_world.proofs.BootTurns.{undoable_activated}
+use Rattle.apex_world.proofs.BootTurns.{Turns, Rests, Activates, Remains, Fails, Reverts, rests}
 use Rattle.apex_world.proofs.KeptLemmas.{stands_as, success_stands, undoable_no_success}
-
-no_success : (s : State) → is_unfinished s ≡ true → is_success s ≡ true → ⊥
-no_success state.Verified e f = absurd (cc)
-no_success state.Staged e f = absurd (cc)
-no_success state.Activated e f = absurd (cc)
-no_success state.ActivationFailed e f = absurd (cc)
-no_success state.Success e f = absurd (cc)
-no_success state.RevertInProgress e f = absurd (cc)
-no_success state.Reverted e f = absurd (cc)
-no_success state.Aborted e f = absurd (cc)
+use Rattle.apex_world.proofs.StateFacts.{undoable_unfinished, undoable_activated}
 
 staged_moves : (s : State) → rests s ≡ true → is_staged s ≡ true → ⊥
 staged_moves state.Verified e f = absurd (cc)

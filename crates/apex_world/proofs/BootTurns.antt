@@ -16,6 +16,7 @@ use Rattle.apex_world.specs.Boot.{ended, rebuilt_in, with_rollback, activated_by
 use Rattle.apex_world.specs.Boot.{is_same_build, keeps_rollback}
 use Rattle.apex_world.specs.Lawful.{never_activated}
 use Rattle.apex_world.specs.Selection.{Mounts, cause_of}
+use Rattle.apex_world.proofs.StateFacts.{undoable_unfinished}
 
 -- the state of a session that no boot changes
 abbrev pub rests : State → Bool
@@ -96,16 +97,6 @@ module _ (mounts : Mounts) (modules : List Submission) (order : BootOrder) (b : 
 
 -- What follows
 
-pub undoable_unfinished : (s : State) → is_undoable s ≡ true → is_unfinished s ≡ true
-undoable_unfinished state.Verified e = absurd (cc)
-undoable_unfinished state.Staged e = absurd (cc)
-undoable_unfinished state.Activated e = refl
-undoable_unfinished state.ActivationFailed e = absurd (cc)
-undoable_unfinished state.Success e = absurd (cc)
-undoable_unfinished state.RevertInProgress e = refl
-undoable_unfinished state.Reverted e = absurd (cc)
-undoable_unfinished state.Aborted e = absurd (cc)
-
 -- a session that a boot moves was unfinished
 pub moved_unfinished : (cause : Option Cause) (b : ℕ) (r s : Record) (t : State) → r.state ≢ t → s.state ≡ t
     → Turns cause b r s → is_unfinished r.state ≡ true
@@ -143,17 +134,6 @@ success_states state.Success e = (refl, refl, refl)
 success_states state.RevertInProgress e = absurd (cc)
 success_states state.Reverted e = absurd (cc)
 success_states state.Aborted e = absurd (cc)
-
--- what can be undone was activated
-pub undoable_activated : (s : State) → is_undoable s ≡ true → never_activated s ≡ false
-undoable_activated state.Verified e = absurd (cc)
-undoable_activated state.Staged e = absurd (cc)
-undoable_activated state.Activated e = refl
-undoable_activated state.ActivationFailed e = absurd (cc)
-undoable_activated state.Success e = absurd (cc)
-undoable_activated state.RevertInProgress e = refl
-undoable_activated state.Reverted e = absurd (cc)
-undoable_activated state.Aborted e = absurd (cc)
 
 -- and what a boot reverts could be undone
 pub reverted_undoable : (cause : Option Cause) (b : ℕ) (r s : Record) → r.state ≢ state.Reverted

@@ -23,7 +23,7 @@ use Rattle.apex_base.specs.Results.{◌>>=◌}
 use Rattle.apex_base.specs.Rollbacks.{is_enabling, is_in_use, is_eligible, no_longer}
 use Rattle.apex_base.specs.Sessions.{has_id, names, shares, session_of, Ascend}
 use Rattle.apex_base.proofs.MemberLemmas.{in_map, in_filter, in_map_back}
-use Rattle.apex_base.proofs.SessionLemmas.{of_found, of_in, with_self, ascend_map, with_any, with_others, ascend_with}
+use Rattle.apex_base.proofs.SessionLemmas.{of_found, with_self, ascend_map, with_any, with_others, ascend_with}
 use Rattle.apex_world.specs.declared.calls.Call.{Call}
 use Rattle.apex_world.specs.declared.calls.Call.TheVariants as calls
 use Rattle.apex_world.specs.declared.calls.Observer.{Observer}
@@ -44,11 +44,12 @@ use Rattle.apex_world.specs.Watching.{watched, no_observer, first_unknown, is_wa
 use Rattle.apex_world.specs.World.{World}
 use Rattle.apex_world.proofs.BootStays.{Waits, waits_becomes, waits_same}
 use Rattle.apex_world.proofs.CommitStays.{commit_follows, all_follow, ascend_filter}
-use Rattle.apex_world.proofs.LeadsLemmas.{same, leads_same, leads_one, leads_new, leads_map, leads_as}
+use Rattle.apex_world.proofs.LeadsLemmas.{changed, same, leads_same, leads_one, leads_new, leads_map, leads_as}
 use Rattle.apex_world.proofs.NewIds.{AreNew, submit_new, rollback_new}
 use Rattle.apex_base.specs.declared.refusal.Refusal.TheVariants.{NothingToRevert, NoRollback}
 use Rattle.apex_base.specs.Windows.{is_failing}
 use Rattle.apex_base.specs.Tables.{value_of, without_value}
+use Rattle.apex_world.proofs.OpenedSessions.{one_session}
 
 pub stays : (r : Record) → Becomes r r
 stays r = record { kept = same r; goes = inl refl }
@@ -56,19 +57,12 @@ stays r = record { kept = same r; goes = inl refl }
 abbrev kept_so : (r s : Record) → Becomes r s → IsKeptAs r s
 kept_so r s b = b.kept
 
-one_session : (ss : List Record) (r t : Record) → Ascend ss → In r ss → In t ss → t.id.0 ≡ r.id.0 → t ≡ r
-one_session ss r t a h i e =
-    let id : t.id ≡ r.id = ap (λ (n : ℕ). record { 0 = n }) e in
-    let f : session_of ss t.id ≡ Some t = of_in ss t a i in
-    let g : session_of ss t.id ≡ Some r = ap (session_of ss) id ∙ of_in ss r a h in
-    cc (f, g)
-
 -- Ready and Abort
 
 move_kept : (m : Move) (r : Record) (s : State) → moved r.state m ≡ Some s
     → Becomes r (record r { state = s; rollback = rollback_after m r.rollback })
 move_kept m r s e = record {
-  kept = record { id = refl; children = refl; kind = refl; parts = refl; print = refl };
+  kept = changed r;
   goes = inr (m, e);
 }
 
@@ -84,7 +78,7 @@ module _ (w : World) (a : Ascend w.sessions) where
         state = s;
         rollback =
             rollback_after m r.rollback;
-      }) a h refl (move_kept m r s e) (λ t i f. one_session w.sessions r t a h i f)
+      }) a h refl (move_kept m r s e) (λ t i f. one_session w.sessions t r a i h f)
 
   found_if : (clock : ℕ) (id : SessionId) (m : Move) (o : Option Record) → session_of w.sessions id ≡ o
       → Follows w.sessions (move_found w clock id m o).world.sessions
@@ -98,7 +92,7 @@ module _ (w : World) (a : Ascend w.sessions) where
 
 outdated_if : (b : Bool) (r : Record) (o : Option RollbackState) → Becomes r (cond b (record r { rollback = o }) r)
 outdated_if true r o = record {
-  kept = record { id = refl; children = refl; kind = refl; parts = refl; print = refl };
+  kept = changed r;
   goes = inl refl;
 }
 outdated_if false r o = stays r
@@ -119,25 +113,11 @@ succeeding_if : (b : Bool) (clock : ℕ) (r : Record) → moved r.state step_of.
           clock;
     }) (record r { state = state.Success }))
 succeeding_if true clock r e = record {
-  kept = record {
-    id = refl;
-    children = refl;
-    kind = refl;
-    parts = refl;
-    print =
-        refl;
-  };
+  kept = changed r;
   goes = inr (step_of.Success, e);
 }
 succeeding_if false clock r e = record {
-  kept = record {
-    id = refl;
-    children = refl;
-    kind = refl;
-    parts = refl;
-    print =
-        refl;
-  };
+  kept = changed r;
   goes = inr (step_of.Success, e);
 }
 
@@ -177,7 +157,7 @@ module _ (w : World) (a : Ascend w.sessions) (clock : ℕ) (r : Record) (h : In 
         | inl e ↦ (
           succeeding clock r,
           with_self (succeeding clock r) others,
-          subst (λ (t : Record). Becomes t (succeeding clock r)) (sym (one_session w.sessions r t a h i e))
+          subst (λ (t : Record). Becomes t (succeeding clock r)) (sym (one_session w.sessions t r a i h e))
               (succeeding_if (is_enabling r.rollback) clock r goes),
         )
         | inr d ↦ (
@@ -218,14 +198,7 @@ module _ (w : World) (a : Ascend w.sessions) (clock : ℕ) where
 reverting_if : (r : Record) (o : Option State) → moved r.state step_of.Revert ≡ o → Becomes r (in_state o r)
 reverting_if r None e = stays r
 reverting_if r (Some s) e = record {
-  kept = record {
-    id = refl;
-    children = refl;
-    kind = refl;
-    parts = refl;
-    print =
-        refl;
-  };
+  kept = changed r;
   goes = inr (step_of.Revert, e);
 }
 

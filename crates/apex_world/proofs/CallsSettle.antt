@@ -49,9 +49,10 @@ use Rattle.apex_world.proofs.OrderedAfter.{ordered_one, ordered_map}
 use Rattle.apex_world.proofs.RevertAlike.{under_reverting}
 use Rattle.apex_world.proofs.RevertAlike as reverts
 use Rattle.apex_world.proofs.SettledRows.{KeepsNoMore, no_more, no_more_self, settled}
-use Rattle.apex_world.proofs.SuccessAlike.{success_from, ordered_success}
+use Rattle.apex_world.proofs.SuccessAlike.{ordered_success}
 use Rattle.apex_world.proofs.SuccessAlike as successes
 use Rattle.apex_world.proofs.CommitsSettle.{commit_no_more, trigger_no_more}
+use Rattle.apex_world.proofs.StateFacts.{success_from}
 
 -- the rows of v are those that its sessions settle from the rows of w
 abbrev pub IsSettled : World → World → Type 0

@@ -10,7 +10,7 @@ use Rattle.apex_base.specs.declared.records.RollbackState.TheVariants.{Enabling,
 use Rattle.apex_base.specs.Commit.{rollback_id, rolls_back, rollback_session, committed}
 use Rattle.apex_base.specs.Held.{is_available, is_undoable}
 use Rattle.apex_base.specs.Members.{In}
-use Rattle.apex_base.specs.Rollbacks.{is_committed, not_enabled, is_eligible}
+use Rattle.apex_base.specs.Rollbacks.{is_committed, is_eligible}
 use Rattle.apex_base.specs.Sessions.{session_of}
 use Rattle.apex_base.proofs.SessionLemmas.{of_found, of_in}
 use Rattle.apex_world.specs.declared.calls.Observer.{Observer}
@@ -25,12 +25,12 @@ use Rattle.apex_world.specs.World.{World}
 use Rattle.apex_world.proofs.CommitKept.{kept_before}
 use Rattle.apex_world.proofs.CommitOne.{CommitsTo, Taken, GivesWay, Stays, leaves, members, was_so}
 use Rattle.apex_world.proofs.CommitRuns.{eligible_available, committed_running}
-use Rattle.apex_world.proofs.CommitWays.{available_may}
 use Rattle.apex_world.proofs.OpenedSessions.{one_session}
 use Rattle.apex_world.proofs.StagedSome.{staged_some}
 use Rattle.apex_world.proofs.TriggerRuns.{AreEligible, rest_eligible, filter_eligible}
 use Rattle.apex_world.proofs.WorldRows.{same_id}
 use Rattle.apex_world.proofs.KeptRows.{KeepsPast, KeepsRows, keeps_all, keeps_on}
+use Rattle.apex_world.proofs.MayHappen.{available_may, may_as_before, may_if_not_enabled}
 
 -- a rollback that is available isn't committed
 never_both : (o : Option RollbackState) → is_available o ≡ true → is_committed o ≡ true → ⊥
@@ -70,21 +70,9 @@ module _ (w : World) (law : Lawful w) (x : Record) (h : In x w.sessions) (e : is
             ∙ was_so q z (leaves x q z to) is_staged refl staged
       ]
 
-  may_same : (r : Record) (o : Option RollbackState) → In r ss → r.rollback ≡ o → may_happen after r.id o ≡ true
-      → may_happen ss r.id o ≡ true
-  may_same r None i f m = absurd (cc)
-  may_same r (Some Enabling) i f m = refl
-  may_same r (Some Available) i f m = refl
-  may_same r (Some Committed) i f m = ready_before r i (ap is_committed f) m
-  may_same r (Some Deleted) i f m = absurd (cc)
-
-  may_less : (r : Record) (o : Option RollbackState) → In r ss → r.rollback ≡ o
-      → may_happen after r.id (not_enabled o) ≡ true → may_happen ss r.id o ≡ true
-  may_less r None i f m = absurd (cc)
-  may_less r (Some Enabling) i f m = refl
-  may_less r (Some Available) i f m = refl
-  may_less r (Some Committed) i f m = ready_before r i (ap is_committed f) m
-  may_less r (Some Deleted) i f m = absurd (cc)
+  may_same : (r : Record) → In r ss → may_happen after r.id r.rollback ≡ true
+      → may_happen ss r.id r.rollback ≡ true
+  may_same r i m = may_as_before ss after r.id r.rollback (ready_before r i) m
 
   -- a rollback that may happen after a commit might happen before it
   may_before : (r s : Record) → In r ss → CommitsTo x r s → may_happen after s.id s.rollback ≡ true
@@ -93,9 +81,10 @@ module _ (w : World) (law : Lawful w) (x : Record) (h : In x w.sessions) (e : is
       available_may ss r.id r.rollback
       (ap (λ (r : Record). is_available r.rollback) (one_session ss r x law.ids.ascend i h same) ∙ e)
   may_before r s i (GivesWay d wait f) m =
-      may_less r r.rollback i refl (ap (λ (s : Record). may_happen after s.id s.rollback) (sym f) ∙ m)
+      may_same r i (may_if_not_enabled after r.id r.rollback
+      (ap (λ (s : Record). may_happen after s.id s.rollback) (sym f) ∙ m))
   may_before r s i (Stays d g f) m =
-      may_same r r.rollback i refl (ap (λ (s : Record). may_happen after s.id s.rollback) (sym f) ∙ m)
+      may_same r i (ap (λ (s : Record). may_happen after s.id s.rollback) (sym f) ∙ m)
 
   snapshot_before : (r s : Record) → In r ss → CommitsTo x r s → has_snapshot after s ≡ true
       → has_snapshot ss r ≡ true

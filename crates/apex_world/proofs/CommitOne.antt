@@ -16,7 +16,7 @@ use Rattle.apex_base.specs.Sessions.{session_of, shares}
 use Rattle.apex_base.proofs.MemberLemmas.{in_map, in_map_back}
 use Rattle.apex_base.proofs.SessionLemmas.{with_any, with_others, of_found, of_other, of_map}
 use Rattle.apex_world.specs.Follows.{IsKeptAs}
-use Rattle.apex_world.proofs.LeadsLemmas.{same, new_id}
+use Rattle.apex_world.proofs.LeadsLemmas.{changed, same, new_id}
 use Rattle.apex_world.proofs.NewIds.{AreNew}
 
 -- its rollback is committed, it gives way, or it stays
@@ -52,7 +52,7 @@ leaves_all r = record { kept = same r; activation = refl; moment = refl; goes = 
 
 leaves_taken : (r : Record) → Leaves r (record r { rollback = Some rollbacks.Committed })
 leaves_taken r = record {
-  kept = record { id = refl; children = refl; kind = refl; parts = refl; print = refl };
+  kept = changed r;
   activation = refl;
   moment = refl;
   goes = inl refl;
@@ -60,7 +60,7 @@ leaves_taken r = record {
 
 leaves_failed : (new : SessionId) (r : Record) → is_waiting r.state ≡ true → Leaves r (superseded new r)
 leaves_failed new r e = record {
-  kept = record { id = refl; children = refl; kind = refl; parts = refl; print = refl };
+  kept = changed r;
   activation = refl;
   moment = refl;
   goes = inr (e, refl);

@@ -23,6 +23,7 @@ use Rattle.apex_world.proofs.CommitOne.{commits_to, found_after}
 use Rattle.apex_world.proofs.CommitParts.{new_ids}
 use Rattle.apex_world.proofs.OpenedSessions.{one_session}
 use Rattle.apex_world.proofs.WorldRows.{same_name}
+use Rattle.apex_world.proofs.StateFacts.{success_finished}
 
 -- States
 
@@ -35,17 +36,6 @@ waiting_or_undoable state.Success e f = absurd (cc)
 waiting_or_undoable state.RevertInProgress e f = refl
 waiting_or_undoable state.Reverted e f = absurd (cc)
 waiting_or_undoable state.Aborted e f = absurd (cc)
-
--- a success is finished
-pub success_finished : (s : State) → is_success s ≡ true → is_unfinished s ≡ false
-success_finished state.Verified e = absurd (cc)
-success_finished state.Staged e = absurd (cc)
-success_finished state.Activated e = absurd (cc)
-success_finished state.ActivationFailed e = refl
-success_finished state.Success e = refl
-success_finished state.RevertInProgress e = absurd (cc)
-success_finished state.Reverted e = refl
-success_finished state.Aborted e = refl
 
 -- what waits was never activated, and doesn't stand
 pub waits_never : (s : State) → is_waiting s ≡ true → (never_activated s ≡ true) × (is_success s ≡ false)

@@ -1,57 +1,25 @@
 -- Rollbacks of sessions after a commit. Callers want `commit_rollbacks`, `was_available`, `still_committed` and
 -- `was_committed`.
-use Rattle.std.proofs.Common.{◌≡◌, ◌≢◌, ℕ, true, is_some, List, Option, Some}
-use Rattle.std.proofs.Common.{None, sym, ap, subst, ◌∙◌, refl, inl, inr}
+use Rattle.std.proofs.Common.{◌≡◌, ◌≢◌, ℕ, true, List, sym, ap, subst, ◌∙◌, refl, inl, inr}
 use Rattle.std.proofs.lemmas.Bool.{false≢true}
 use Rattle.apex_base.specs.declared.numbers.SessionId.{SessionId}
 use Rattle.apex_base.specs.declared.records.Record.{Record}
-use Rattle.apex_base.specs.declared.records.RollbackState.{RollbackState}
-use Rattle.apex_base.specs.declared.records.RollbackState.TheVariants as rollbacks
 use Rattle.apex_base.specs.Commit.{committed, rolls_back}
 use Rattle.apex_base.specs.Held.{is_success, is_available}
 use Rattle.apex_base.specs.Members.{In}
-use Rattle.apex_base.specs.Rollbacks.{is_enabling, is_committed, not_enabled}
+use Rattle.apex_base.specs.Rollbacks.{is_committed}
 use Rattle.apex_world.specs.Lawful.{Lawful, AllPeers, HasRollback, HaveRollbacks, NotBothAvailable}
 use Rattle.apex_world.specs.World.{World}
 use Rattle.apex_world.proofs.CommitOne.{CommitsTo, Taken, GivesWay, Stays, leaves, made, members}
 use Rattle.apex_world.proofs.CommitParts.{rolls}
 use Rattle.apex_world.proofs.OpenedSessions.{one_session}
 use Rattle.apex_world.proofs.CommitPeers.{waits_never, success, named_before}
-
--- Rollbacks of sessions
-
-not_enabled_some : (o : Option RollbackState) → is_some (not_enabled o) ≡ is_some o
-not_enabled_some None = refl
-not_enabled_some (Some rollbacks.Enabling) = refl
-not_enabled_some (Some rollbacks.Available) = refl
-not_enabled_some (Some rollbacks.Committed) = refl
-not_enabled_some (Some rollbacks.Deleted) = refl
-
-not_enabled_never : (o : Option RollbackState) → is_enabling (not_enabled o) ≡ true → ⊥
-not_enabled_never None e = absurd (cc)
-not_enabled_never (Some rollbacks.Enabling) e = absurd (cc)
-not_enabled_never (Some rollbacks.Available) e = absurd (cc)
-not_enabled_never (Some rollbacks.Committed) e = absurd (cc)
-not_enabled_never (Some rollbacks.Deleted) e = absurd (cc)
-
-not_enabled_available : (o : Option RollbackState) → is_available (not_enabled o) ≡ true → is_available o ≡ true
-not_enabled_available None e = e
-not_enabled_available (Some rollbacks.Enabling) e = absurd (cc)
-not_enabled_available (Some rollbacks.Available) e = e
-not_enabled_available (Some rollbacks.Committed) e = absurd (cc)
-not_enabled_available (Some rollbacks.Deleted) e = absurd (cc)
-
-not_enabled_committed : (o : Option RollbackState) → is_committed (not_enabled o) ≡ is_committed o
-not_enabled_committed None = refl
-not_enabled_committed (Some rollbacks.Enabling) = refl
-not_enabled_committed (Some rollbacks.Available) = refl
-not_enabled_committed (Some rollbacks.Committed) = refl
-not_enabled_committed (Some rollbacks.Deleted) = refl
+use Rattle.apex_world.proofs.RollbackStates.{settles_not_enabled, not_enabled_not}
 
 -- what is available after a commit was available
 pub was_available : (x r s : Record) → CommitsTo x r s → is_available s.rollback ≡ true → is_available r.rollback ≡ true
 was_available x r s (Taken d e) f = absurd (false≢true (sym (ap (λ (r : Record). is_available r.rollback) e) ∙ f))
-was_available x r s (GivesWay d w e) f = not_enabled_available r.rollback
+was_available x r s (GivesWay d w e) f = (settles_not_enabled r.rollback).available
     (ap (λ (r : Record). is_available r.rollback) (sym e) ∙ f)
 was_available x r s (Stays d w e) f = ap (λ (r : Record). is_available r.rollback) (sym e) ∙ f
 
@@ -60,14 +28,14 @@ pub still_committed : (x r s : Record) → CommitsTo x r s → is_committed r.ro
     → is_committed s.rollback ≡ true
 still_committed x r s (Taken d e) f = ap (λ (r : Record). is_committed r.rollback) e
 still_committed x r s (GivesWay d w e) f = ap (λ (r : Record). is_committed r.rollback) e
-    ∙ not_enabled_committed r.rollback ∙ f
+    ∙ (settles_not_enabled r.rollback).committed ∙ f
 still_committed x r s (Stays d w e) f = ap (λ (r : Record). is_committed r.rollback) e ∙ f
 
 -- another one that is committed was committed
 pub was_committed : (x r s : Record) → CommitsTo x r s → r.id.0 ≢ x.id.0 → is_committed s.rollback ≡ true
     → is_committed r.rollback ≡ true
 was_committed x r s (Taken d e) apart f = absurd (apart d)
-was_committed x r s (GivesWay d w e) apart f = sym (not_enabled_committed r.rollback)
+was_committed x r s (GivesWay d w e) apart f = sym (settles_not_enabled r.rollback).committed
     ∙ ap (λ (r : Record). is_committed r.rollback) (sym e) ∙ f
 was_committed x r s (Stays d w e) apart f = ap (λ (r : Record). is_committed r.rollback) (sym e) ∙ f
 
@@ -102,14 +70,14 @@ module _ (w : World) (law : Lawful w) (x : Record) (h : In x w.sessions) (e : is
       })
   rollback_of r s i (GivesWay d wait f) is =
       subst HasRollback (sym f) (record {
-        kind = not_enabled_some r.rollback ∙ is.kind;
-        enabling = λ g. absurd (not_enabled_never r.rollback g);
+        kind = (settles_not_enabled r.rollback).some ∙ is.kind;
+        enabling = λ g. absurd (not_enabled_not r.rollback g);
         available = λ g. absurd (false≢true (sym (waits_never r.state wait).1
-            ∙ is.available (not_enabled_available r.rollback g)));
+            ∙ is.available ((settles_not_enabled r.rollback).available g)));
         committed = λ g. absurd (false≢true (sym (waits_never r.state wait).1
-            ∙ is.committed (sym (not_enabled_committed r.rollback) ∙ g)));
-        none = λ g. is.none (sym (not_enabled_some r.rollback) ∙ g);
-        not_yet = λ g. absurd (not_enabled_never r.rollback g);
+            ∙ is.committed (sym (settles_not_enabled r.rollback).committed ∙ g)));
+        none = λ g. is.none (sym (settles_not_enabled r.rollback).some ∙ g);
+        not_yet = λ g. absurd (not_enabled_not r.rollback g);
       })
   rollback_of r s i (Stays d g f) is = subst HasRollback (sym f) is
 

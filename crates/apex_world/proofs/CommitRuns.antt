@@ -6,8 +6,6 @@ use Rattle.std.specs.Prelude.{not}
 use Rattle.std.proofs.lemmas.Bool.{and_parts, and_from, or_cases, or_left, or_right, false≢true}
 use Rattle.apex_base.specs.declared.numbers.Scale.{Scale}
 use Rattle.apex_base.specs.declared.records.Record.{Record}
-use Rattle.apex_base.specs.declared.records.State.{State}
-use Rattle.apex_base.specs.declared.records.State.TheVariants as state
 use Rattle.apex_base.specs.Commit.{committed}
 use Rattle.apex_base.specs.Held.{is_unfinished, is_undoable, is_available}
 use Rattle.apex_base.specs.Members.{In}
@@ -32,16 +30,8 @@ use Rattle.apex_world.proofs.CommitPeers.{named_before}
 use Rattle.apex_world.proofs.CommitRollbacks.{commit_rollbacks, was_available}
 use Rattle.apex_world.proofs.CommitUndone.{commit_undone}
 use Rattle.apex_world.proofs.NameCounts.{names_within}
-
-staged_unfinished : (s : State) → is_staged s ≡ true → is_unfinished s ≡ true
-staged_unfinished state.Verified e = absurd (cc)
-staged_unfinished state.Staged e = refl
-staged_unfinished state.Activated e = absurd (cc)
-staged_unfinished state.ActivationFailed e = absurd (cc)
-staged_unfinished state.Success e = absurd (cc)
-staged_unfinished state.RevertInProgress e = absurd (cc)
-staged_unfinished state.Reverted e = absurd (cc)
-staged_unfinished state.Aborted e = absurd (cc)
+use Rattle.apex_world.proofs.StateFacts.{staged_unfinished}
+use Rattle.apex_world.proofs.RunningLemmas.{ranges_with}
 
 ready_unfinished : (r : Record) → is_ready_rollback r ≡ true → is_unfinished r.state ≡ true
 ready_unfinished r e = staged_unfinished r.state (and_parts (undoes r.kind) (is_staged r.state) e).1
@@ -124,19 +114,9 @@ module _ (w : World) (run : Running w) (x : Record) (h : In x w.sessions) (e : i
 
   committed_lawful : Lawful (record w { sessions = after })
   committed_lawful = record {
-    ranges = record {
-      sessions = commit_ranges w law x h available print (running_print w.scale w.image run.image law.ranges.image);
-      modules = law.ranges.modules;
-      contents = law.ranges.contents;
-      eras = law.ranges.eras;
-      moments = law.ranges.moments;
-      watches = law.ranges.watches;
-      ends = law.ranges.ends;
-      boots = law.ranges.boots;
-      clock = law.ranges.clock;
-      image = law.ranges.image;
-      observers = law.ranges.observers;
-    };
+    ranges = ranges_with w law.ranges after w.modules w.clock
+        (commit_ranges w law x h available print (running_print w.scale w.image run.image law.ranges.image))
+        law.ranges.modules law.ranges.clock;
     ids = commit_ids w law x h available print;
     parts = commit_parts w law x h available print;
     alone = commit_alone w law x h available print (eligible_free w.sessions x e);

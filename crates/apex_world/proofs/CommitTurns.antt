@@ -1,21 +1,19 @@
 -- What a commit makes of sessions, what they keep of the past after it, and which commits can follow. Callers want
 -- `CanCommit`, `carries_commit`, `nothing_commit`, `past_stays`, `past_commit`, `ordered_commit` and `can_after`.
-use Rattle.std.proofs.Common.{◌≡◌, ◌≢◌, ◌⊎◌, ℕ, true, false, eqb, ◌&&◌, List, map, Option, Some, None, sym}
+use Rattle.std.proofs.Common.{◌≡◌, ◌≢◌, ◌⊎◌, ℕ, true, false, eqb, ◌&&◌, List, map, sym}
 use Rattle.std.proofs.Common.{ap, subst, ◌∙◌, refl, inl, inr, arith}
 use Rattle.std.specs.Prelude.{not}
 use Rattle.std.proofs.lemmas.Bool.{false≢true, and_parts, and_from, or_right, ne_eqb}
 use Rattle.apex_base.specs.declared.numbers.SessionId.{SessionId}
 use Rattle.apex_base.specs.declared.records.Part.{Part}
 use Rattle.apex_base.specs.declared.records.Record.{Record}
-use Rattle.apex_base.specs.declared.records.RollbackState.{RollbackState}
-use Rattle.apex_base.specs.declared.records.RollbackState.TheVariants.{Enabling, Available, Committed, Deleted}
 use Rattle.apex_base.specs.declared.records.State.{State}
 use Rattle.apex_base.specs.declared.records.State.TheVariants as state
 use Rattle.apex_base.specs.Commit.{rollback_id, rolls_back, is_waiting, part_before}
 use Rattle.apex_base.specs.Commit.{rollback_session, after_commit, committed}
 use Rattle.apex_base.specs.Held.{is_undoable, is_success, is_available, before, kept}
 use Rattle.apex_base.specs.Members.{In}
-use Rattle.apex_base.specs.Rollbacks.{is_committed, not_enabled}
+use Rattle.apex_base.specs.Rollbacks.{is_committed}
 use Rattle.apex_base.specs.Sessions.{session_of}
 use Rattle.apex_base.proofs.MemberLemmas.{in_map, in_map_back}
 use Rattle.apex_base.proofs.SessionLemmas.{with_any, with_others, of_found, of_in}
@@ -28,9 +26,10 @@ use Rattle.apex_world.proofs.OpenedSessions.{one_session}
 use Rattle.apex_world.proofs.OrderedAfter.{ordered_map, ordered_new}
 use Rattle.apex_world.proofs.WorldRows.{same_id}
 use Rattle.apex_world.proofs.CommitWays.{Ways, Marks, GivesWay, Leaves, ways, ways_like, ways_under, ways_goes}
-use Rattle.apex_world.proofs.CommitWays.{staged_back, available_may}
+use Rattle.apex_world.proofs.CommitWays.{staged_back}
 use Rattle.apex_world.proofs.NewIds.{not_both}
 use Rattle.apex_world.proofs.StagedSome.{staged_some}
+use Rattle.apex_world.proofs.MayHappen.{available_may, may_as_before, may_if_not_enabled}
 
 -- a session whose rollback can be committed
 pub record CanCommit (ss : List Record) (x : Record) : Type 0 where
@@ -121,30 +120,19 @@ module _ (ss : List Record) (law : AreOrdered ss) (x : Record) (can : CanCommit 
             (sym (number_same q z way) ∙ zid))) ∙ of_in ss q law.ascend j) ∙ staged_back x q z way s
       ]
 
-  may_same : (r : Record) (o : Option RollbackState) → In r ss → r.rollback ≡ o → may_happen after r.id o ≡ true
-      → may_happen ss r.id o ≡ true
-  may_same r None h e m = absurd (cc)
-  may_same r (Some Enabling) h e m = refl
-  may_same r (Some Available) h e m = refl
-  may_same r (Some Committed) h e m = staged_before r h (ap is_committed e) m
-  may_same r (Some Deleted) h e m = absurd (cc)
-
-  may_less : (r : Record) (o : Option RollbackState) → In r ss → r.rollback ≡ o
-      → may_happen after r.id (not_enabled o) ≡ true → may_happen ss r.id o ≡ true
-  may_less r None h e m = absurd (cc)
-  may_less r (Some Enabling) h e m = refl
-  may_less r (Some Available) h e m = refl
-  may_less r (Some Committed) h e m = staged_before r h (ap is_committed e) m
-  may_less r (Some Deleted) h e m = absurd (cc)
+  may_same : (r : Record) → In r ss → may_happen after r.id r.rollback ≡ true
+      → may_happen ss r.id r.rollback ≡ true
+  may_same r h m = may_as_before ss after r.id r.rollback (staged_before r h) m
 
   may_before : (r s : Record) → In r ss → Ways x r s → may_happen after s.id s.rollback ≡ true
       → may_happen ss r.id r.rollback ≡ true
   may_before r s h (Marks e f) m =
       available_may ss r.id r.rollback (ap (λ (r : Record). is_available r.rollback) (one r h e) ∙ can.available)
   may_before r s h (GivesWay e f) m =
-      may_less r r.rollback h refl (ap (λ (s : Record). may_happen after s.id s.rollback) (sym f) ∙ m)
+      may_same r h (may_if_not_enabled after r.id r.rollback
+      (ap (λ (s : Record). may_happen after s.id s.rollback) (sym f) ∙ m))
   may_before r s h (Leaves f) m =
-      may_same r r.rollback h refl (ap (λ (s : Record). may_happen after s.id s.rollback) (sym f) ∙ m)
+      may_same r h (ap (λ (s : Record). may_happen after s.id s.rollback) (sym f) ∙ m)
 
   keeps_before : (r s : Record) → In r ss → Ways x r s → KeepsPast after s → KeepsPast ss r
   keeps_before r s h way (inl k) =

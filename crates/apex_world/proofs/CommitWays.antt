@@ -1,23 +1,20 @@
 -- What a commit makes of each session. Callers want `Ways` and what follows from it.
-use Rattle.std.proofs.Common.{◌≡◌, Bool, true, false, cond, eqb, List, Option, Some, None, sym}
+use Rattle.std.proofs.Common.{◌≡◌, Bool, true, false, cond, eqb, Some, sym}
 use Rattle.std.proofs.Common.{ap, subst, ◌∙◌, refl}
 use Rattle.std.proofs.lemmas.Bool.{false≢true, and_parts, or_right, eqb-true}
-use Rattle.apex_base.specs.declared.numbers.SessionId.{SessionId}
 use Rattle.apex_base.specs.declared.records.Record.{Record}
-use Rattle.apex_base.specs.declared.records.RollbackState.{RollbackState}
-use Rattle.apex_base.specs.declared.records.RollbackState.TheVariants.{Enabling, Available, Committed, Deleted}
-use Rattle.apex_base.specs.declared.records.State.{State}
-use Rattle.apex_base.specs.declared.records.State.TheVariants as state
+use Rattle.apex_base.specs.declared.records.RollbackState.TheVariants.{Committed}
 use Rattle.apex_base.specs.Commit.{rollback_id, is_waiting, is_superseded, superseded}
 use Rattle.apex_base.specs.Commit.{after_commit}
-use Rattle.apex_base.specs.Held.{is_undoable, is_success, is_available}
-use Rattle.apex_base.specs.Rollbacks.{not_enabled}
+use Rattle.apex_base.specs.Held.{is_undoable, is_available}
 use Rattle.apex_base.specs.Sessions.{shares}
-use Rattle.apex_world.specs.Rows.{is_staged, may_happen}
+use Rattle.apex_world.specs.Rows.{is_staged}
 use Rattle.apex_world.proofs.AlikeAfter.{IsLike}
 use Rattle.apex_world.proofs.KeptLess.{Goes}
 use Rattle.apex_world.proofs.MovesAlike.{goes_self}
 use Rattle.apex_world.proofs.OrderedAfter.{IsUnder, under_self}
+use Rattle.apex_world.proofs.RollbackStates.{settles_not_enabled}
+use Rattle.apex_world.proofs.StateFacts.{waits_no_success}
 
 -- the commit of x leaves a session, or marks x, or fails one that waits
 pub data Ways (x r s : Record) : Type 0 where
@@ -64,23 +61,6 @@ ways_under x r s (GivesWay e f) = subst (IsUnder r) (sym f) (record {
 })
 ways_under x r s (Leaves f) = subst (IsUnder r) (sym f) (under_self r)
 
-waits_no_success : (s : State) → is_waiting s ≡ true → is_success s ≡ false
-waits_no_success state.Verified e = refl
-waits_no_success state.Staged e = refl
-waits_no_success state.Activated e = refl
-waits_no_success state.ActivationFailed e = refl
-waits_no_success state.Success e = absurd (cc)
-waits_no_success state.RevertInProgress e = refl
-waits_no_success state.Reverted e = refl
-waits_no_success state.Aborted e = refl
-
-still_available : (o : Option RollbackState) → is_available (not_enabled o) ≡ true → is_available o ≡ true
-still_available None e = absurd (cc)
-still_available (Some Enabling) e = absurd (cc)
-still_available (Some Available) e = refl
-still_available (Some Committed) e = absurd (cc)
-still_available (Some Deleted) e = absurd (cc)
-
 -- no more of its modules is kept
 pub ways_goes : (x r s : Record) → Ways x r s → Goes r s
 ways_goes x r s (Marks e f) = subst (Goes r) (sym f) (record {
@@ -95,7 +75,8 @@ ways_goes x r s (GivesWay e f) = subst (Goes r) (sym f) (record {
   unfinished = λ e. absurd (false≢true e);
   stays = λ s. absurd (false≢true (sym (waits_no_success r.state e) ∙ s));
   came = λ e. absurd (false≢true e);
-  available = λ e. (or_right (is_undoable r.state) (is_available r.rollback) (still_available r.rollback e), refl);
+  available = λ e. let was = (settles_not_enabled r.rollback).available e in
+      (or_right (is_undoable r.state) (is_available r.rollback) was, refl);
 })
 ways_goes x r s (Leaves f) = subst (Goes r) (sym f) (goes_self r)
 
@@ -104,12 +85,3 @@ pub staged_back : (x r s : Record) → Ways x r s → is_staged s.state ≡ true
 staged_back x r s (Marks e f) u = ap (λ (s : Record). is_staged s.state) (sym f) ∙ u
 staged_back x r s (GivesWay e f) u = absurd (false≢true (ap (λ (s : Record). is_staged s.state) (sym f) ∙ u))
 staged_back x r s (Leaves f) u = ap (λ (s : Record). is_staged s.state) (sym f) ∙ u
-
--- an available rollback may happen
-pub available_may : (ss : List Record) (id : SessionId) (o : Option RollbackState) → is_available o ≡ true
-    → may_happen ss id o ≡ true
-available_may ss id None e = absurd (cc)
-available_may ss id (Some Enabling) e = absurd (cc)
-available_may ss id (Some Available) e = refl
-available_may ss id (Some Committed) e = absurd (cc)
-available_may ss id (Some Deleted) e = absurd (cc)

@@ -10,22 +10,21 @@ use Rattle.std.proofs.lemmas.Bool.{and_parts}
 use Rattle.std.proofs.lemmas.List.{append-nil, take_at, drop_at}
 use Rattle.std.proofs.lemmas.List.Sums.{sum_by-cons, sum_by-append, sum-map}
 use Rattle.std.proofs.lemmas.Slice.Eq.{bytes_eq-Decides}
-use Rattle.apex_base.specs.Keys.{Key, Boots, DataOf, FileOf, WatchOf, key_text, row_of, data_front}
+use Rattle.apex_base.specs.Keys.{Key, DataOf, FileOf, WatchOf, key_text, row_of, data_front}
 use Rattle.apex_base.specs.Members.{In}
 use Rattle.apex_base.specs.RowSums.{entry_weight, is_of_name, data_row_weight, name_weight}
 use Rattle.apex_base.specs.Tables.{NameMap, or_empty}
-use Rattle.apex_base.proofs.MemberLemmas.{in_append, in_map_back, in_flat_map_back}
+use Rattle.apex_base.proofs.MemberLemmas.{in_map_back, in_flat_map_back}
 use Rattle.apex_base.proofs.RowMaps.{below_in, sorted_entries, entry_get, same_bytes, eq_bytes}
-use Rattle.apex_base.proofs.RowWeights.{AreOnce, AreLight, once_light, once_append, key_weight, rows_weight}
+use Rattle.apex_base.proofs.RowWeights.{AreOnce, AreLight, once_light, once_append, key_weight}
 use Rattle.apex_base.proofs.RowWeights.{light_sum, no_entries}
 use Rattle.apex_world.specs.declared.world.Submission.{Submission}
 use Rattle.apex_world.specs.Data.{part_weight, data_weight}
 use Rattle.apex_world.specs.Lawful.{Lawful}
-use Rattle.apex_world.specs.Rows.{row_at, file_keys, row_keys, rows}
+use Rattle.apex_world.specs.Rows.{row_at, file_keys, rows}
 use Rattle.apex_world.specs.World.{World}
-use Rattle.apex_world.proofs.RowWeightLemmas.{OfSessions, each_session, table_light, once_map, names_of, front}
-use Rattle.apex_world.proofs.RowWeightLemmas.{middle, data_keys, watch_keys, key_first}
-use Rattle.apex_world.proofs.WorldRows.{world_keys}
+use Rattle.apex_world.proofs.RowWeightLemmas.{OfSessions, each_session, table_light, once_map, names_of}
+use Rattle.apex_world.proofs.RowWeightLemmas.{middle, key_first, middle_and_data_weigh}
 
 -- Which keys are of a name's data
 
@@ -190,32 +189,10 @@ module _ (name : List ℕ) where
         let front_light = each_session (λ k. counted (key_text k) ≡ false) sessions_light w.eras w.sessions in
         let middle_light = files_light w.modules in
         let watch_light = table_light counted WatchOf w.watches (λ a b. other_tag name 9 _ (λ e. omega (arith, e))) in
-        let two = once_append counted g light (front w) (middle w)
-        (once_light counted g light (front w) front_light) (once_light counted g light (middle w) middle_light)
-        (λ k h i. front_light k h) in
-        let three = once_append counted g light (front w ++ middle w) (data_keys w) two
-        (once_entries (fin.entries w.contents) (sorted_entries w.contents))
-        (λ k h i. elim (in_append k (front w) (middle w) h) [
-          | inl l ↦ front_light k l
-          | inr l ↦ middle_light k l
-        ]) in
-        let four = once_append counted g light (front w ++ middle w ++ data_keys w) (watch_keys w) three
-        (once_light counted g light (watch_keys w) watch_light) (λ k h i. watch_light k i) in
-        let boots = other_tag name 1 [] (λ e. omega (arith, e)) in
-        let once : AreOnce counted g light (row_keys w) = (inl boots, four) in
-        let a = rows_weight counted g light (row_at w) (row_keys w) (world_keys w law).keyed once in
-        let b = sum_by-cons row_weight Boots (front w ++ middle w ++ data_keys w ++ watch_keys w) in
-        let c = light_sum counted g light (row_at w) (Boots ∷ []) (λ k h. elim h [
-          | inl e ↦ subst (λ (k : Key). counted (key_text k) ≡ false) e boots
-          | inr n ↦ absurd n
-        ]) in
-        let c' = sum_by-cons row_weight Boots [] in
-        let d = sum_by-append row_weight (front w ++ middle w ++ data_keys w) (watch_keys w) in
-        let e = sum_by-append row_weight (front w ++ middle w) (data_keys w) in
-        let f = sum_by-append row_weight (front w) (middle w) in
-        let g1 = light_sum counted g light (row_at w) (front w) front_light in
-        let h = light_sum counted g light (row_at w) (middle w) middle_light in
-        let i = light_sum counted g light (row_at w) (watch_keys w) watch_light in
-        let j = entries_sum (fin.entries w.contents) (sorted_entries w.contents) (λ e h. h)
+        let a = middle_and_data_weigh w law counted g light (other_tag name 1 [] (λ e. omega (arith, e))) front_light
+        watch_light (once_light counted g light (middle w) middle_light)
+        (once_entries (fin.entries w.contents) (sorted_entries w.contents)) (λ k h i. middle_light k h) in
+        let b = light_sum counted g light (row_at w) (middle w) middle_light in
+        let c = entries_sum (fin.entries w.contents) (sorted_entries w.contents) (λ e h. h)
         ∙ ap (λ (o : Option (NameMap (List ℕ))). part_weight (or_empty o)) (sym (get-entries w.contents name)) in
-        omega (arith, a, b, c, c', d, e, f, g1, h, i, j)
+        omega (arith, a, b, c)

@@ -1,5 +1,5 @@
 -- Worlds that are alike, with a new session that a submit makes. Callers want `entered_alike` and `full_alike`.
-use Rattle.std.proofs.Common.{◌≡◌, ◌≢◌, ℕ, Bool, cond, leb, List, [], ◌∷◌, Option}
+use Rattle.std.proofs.Common.{◌++◌, ◌≡◌, ◌≢◌, ℕ, Bool, cond, leb, List, [], ◌∷◌, Option}
 use Rattle.std.proofs.Common.{Some, None, sym, ap, subst, ◌∙◌, refl, inl, inr}
 use Rattle.apex_base.specs.declared.numbers.SessionId.{SessionId}
 use Rattle.apex_base.specs.declared.records.Part.{Part}
@@ -22,7 +22,7 @@ use Rattle.apex_world.specs.Submit.{id_taken, submissions_from, image_print, new
 use Rattle.apex_world.specs.Submit.{store_full}
 use Rattle.apex_world.specs.World.{World}
 use Rattle.apex_world.proofs.AlikeAfter.{no_past_new, target_in, in_target, same_past}
-use Rattle.apex_world.proofs.AlikeLemmas.{other}
+use Rattle.apex_world.proofs.AlikeLemmas.{alike_with, other}
 use Rattle.apex_world.proofs.KeptLemmas.{ordered}
 use Rattle.apex_world.proofs.KeptLess.{IsFresh, Nothing, Before, New, kept_less}
 use Rattle.apex_world.proofs.OpenedModules.{HaveSameFiles, weight_same}
@@ -78,25 +78,12 @@ module _ (w v : World) (a : AreAlikeInParts w v) (law : Lawful w) (law' : Lawful
 
   -- the worlds with the new session are alike in parts
   pub entered_alike : AreAlikeInParts (entered w id children rollback ps) (entered z id children rollback ps)
-  entered_alike = record {
-    stored = record {
-      sessions = refl;
-      modules = λ session part k. submitted_more w.modules v.modules added session part (same_files session part k);
-      contents = refl;
-      past = same_past w v a after (ordered w law) (ordered_after w law id children rollback ps free)
-          (carries w law id children rollback ps free)
-          (no_past_new w.sessions after (past_stays w law id children rollback ps free));
-      boots = a.stored.boots;
-      moments = a.stored.moments;
-      watches = refl;
-    };
-    scale = refl;
-    image = refl;
-    observers = refl;
-    active = refl;
-    clock = refl;
-    failures = a.failures;
-  }
+  entered_alike =
+      alike_with w v a after (w.modules ++ added) (v.modules ++ added) w.contents w.watches w.clock
+      (λ session part k. submitted_more w.modules v.modules added session part (same_files session part k))
+      (same_past w v a after (ordered w law) (ordered_after w law id children rollback ps free)
+      (carries w law id children rollback ps free)
+      (no_past_new w.sessions after (past_stays w law id children rollback ps free)))
 
   weight_alike : weight (entered w id children rollback ps) ≡ weight (entered z id children rollback ps)
   weight_alike = weight_more after w.modules v.modules added

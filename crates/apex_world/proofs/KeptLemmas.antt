@@ -16,33 +16,14 @@ use Rattle.apex_base.specs.Held.{before, kept_for, kept}
 use Rattle.apex_base.specs.Members.{In}
 use Rattle.apex_base.specs.Sessions.{names, Ascend}
 use Rattle.apex_base.proofs.MemberLemmas.{in_left, in_right, in_append, in_flat_map, in_flat_map_back, in_any}
-use Rattle.apex_world.specs.Lawful.{Lawful, AllPeers, AreActivatedApart, never_activated}
+use Rattle.apex_world.specs.Lawful.{Lawful, AllPeers, AreActivatedApart}
 use Rattle.apex_world.specs.World.{World}
 use Rattle.apex_world.proofs.LatestLemmas.{part_for, named_by, names_part, IsLatest, latest_is}
 use Rattle.apex_world.proofs.OpenedSessions.{one_session}
 use Rattle.apex_world.proofs.WorldRows.{same_name}
+pub use Rattle.apex_world.proofs.StateFacts.{undoable_stands, success_stands, stands_activated, undoable_no_success}
 
 -- States
-
-pub undoable_stands : (s : State) → is_undoable s ≡ true → is_standing s ≡ true
-undoable_stands state.Verified e = absurd (cc)
-undoable_stands state.Staged e = absurd (cc)
-undoable_stands state.Activated e = refl
-undoable_stands state.ActivationFailed e = absurd (cc)
-undoable_stands state.Success e = absurd (cc)
-undoable_stands state.RevertInProgress e = refl
-undoable_stands state.Reverted e = absurd (cc)
-undoable_stands state.Aborted e = absurd (cc)
-
-pub success_stands : (s : State) → is_success s ≡ true → is_standing s ≡ true
-success_stands state.Verified e = absurd (cc)
-success_stands state.Staged e = absurd (cc)
-success_stands state.Activated e = refl
-success_stands state.ActivationFailed e = absurd (cc)
-success_stands state.Success e = refl
-success_stands state.RevertInProgress e = refl
-success_stands state.Reverted e = absurd (cc)
-success_stands state.Aborted e = absurd (cc)
 
 -- a session that stands is undoable, and so unfinished, or successful
 pub stands_as : (s : State) → is_standing s ≡ true → ((is_undoable s ≡ true)
@@ -55,36 +36,6 @@ stands_as state.Success e = inr refl
 stands_as state.RevertInProgress e = inl (refl, refl)
 stands_as state.Reverted e = absurd (cc)
 stands_as state.Aborted e = absurd (cc)
-
-pub unfinished_as : (s : State) → is_undoable s ≡ true → is_unfinished s ≡ true
-unfinished_as state.Verified e = refl
-unfinished_as state.Staged e = refl
-unfinished_as state.Activated e = refl
-unfinished_as state.ActivationFailed e = absurd (cc)
-unfinished_as state.Success e = absurd (cc)
-unfinished_as state.RevertInProgress e = refl
-unfinished_as state.Reverted e = absurd (cc)
-unfinished_as state.Aborted e = absurd (cc)
-
-pub stands_activated : (s : State) → is_standing s ≡ true → never_activated s ≡ false
-stands_activated state.Verified e = absurd (cc)
-stands_activated state.Staged e = absurd (cc)
-stands_activated state.Activated e = refl
-stands_activated state.ActivationFailed e = absurd (cc)
-stands_activated state.Success e = refl
-stands_activated state.RevertInProgress e = refl
-stands_activated state.Reverted e = absurd (cc)
-stands_activated state.Aborted e = absurd (cc)
-
-pub undoable_no_success : (s : State) → is_undoable s ≡ true → is_success s ≡ true → ⊥
-undoable_no_success state.Verified e f = absurd (cc)
-undoable_no_success state.Staged e f = absurd (cc)
-undoable_no_success state.Activated e f = absurd (cc)
-undoable_no_success state.ActivationFailed e f = absurd (cc)
-undoable_no_success state.Success e f = absurd (cc)
-undoable_no_success state.RevertInProgress e f = absurd (cc)
-undoable_no_success state.Reverted e f = absurd (cc)
-undoable_no_success state.Aborted e f = absurd (cc)
 
 -- Names
 

@@ -1,9 +1,12 @@
 -- How sessions lead to sessions: all by themselves, one among others, a new one, and one step after another.
-use Rattle.std.proofs.Common.{◌≡◌, ◌≢◌, ◌||◌, eqb, List, ◌∷◌, map, sym, ap, subst, ◌∙◌, refl, inl, inr}
+use Rattle.std.proofs.Common.{◌≡◌, ◌≢◌, ℕ, ◌||◌, eqb, List, ◌∷◌, map, Option, sym, ap, subst, ◌∙◌, refl, inl, inr}
 use Rattle.std.specs.List.{list_any}
 use Rattle.std.proofs.lemmas.Bool.{cases_eq, eq-eqb, or_left, false≢true}
 use Rattle.apex_base.specs.declared.numbers.SessionId.{SessionId}
+use Rattle.apex_base.specs.declared.records.Cause.{Cause}
 use Rattle.apex_base.specs.declared.records.Record.{Record}
+use Rattle.apex_base.specs.declared.records.RollbackState.{RollbackState}
+use Rattle.apex_base.specs.declared.records.State.{State}
 use Rattle.apex_base.specs.Members.{In}
 use Rattle.apex_base.specs.Sessions.{has_id, with_session, Ascend}
 use Rattle.apex_base.proofs.MemberLemmas.{in_map, in_map_back}
@@ -13,6 +16,17 @@ use Rattle.apex_world.specs.Lawful.{ids_of}
 
 pub same : (r : Record) → IsKeptAs r r
 same r = record { id = refl; children = refl; kind = refl; parts = refl; print = refl }
+
+-- a session is kept whatever its state, its cause, its activation, its rollback and its moment become
+pub changed : {s : State} {cause : Option Cause} {activation : ℕ} {rollback : Option RollbackState} {moment : ℕ}
+    (r : Record) → IsKeptAs r (record r {
+      state = s;
+      cause = cause;
+      activation = activation;
+      rollback = rollback;
+      moment = moment;
+    })
+changed r = record { id = refl; children = refl; kind = refl; parts = refl; print = refl }
 
 pub kept_on : (r s t : Record) → IsKeptAs r s → IsKeptAs s t → IsKeptAs r t
 kept_on r s t k l = record {

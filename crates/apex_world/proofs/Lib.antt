@@ -81,6 +81,7 @@ pub mod LikenessLaws
 pub mod ListedOrigins
 pub mod MapsOfRows
 pub mod MomentsAlike
+pub mod MayHappen
 pub mod MoveStates
 pub mod MovedRows
 pub mod MovedSessions
@@ -103,6 +104,7 @@ pub mod OrderedAfter
 pub mod OutdatedRollbacks
 pub mod OwnTargets
 pub mod PartOwners
+pub mod PlacedSessions
 pub mod PlainLemmas
 pub mod QuietBoots
 pub mod ReadyRows
@@ -113,6 +115,7 @@ pub mod RevertAlike
 pub mod RevertRuns
 pub mod RollbackDataLemmas
 pub mod RollbackIds
+pub mod RollbackStates
 pub mod RowWeightLemmas
 pub mod RunningLemmas
 pub mod SessionBeside
@@ -121,6 +124,7 @@ pub mod SettledRows
 pub mod ShortForms
 pub mod SoundRanges
 pub mod StagedSome
+pub mod StateFacts
 pub mod StoredAlikeLemmas
 pub mod SubmitAlike
 pub mod SubmitRows

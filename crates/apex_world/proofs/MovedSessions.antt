@@ -1,12 +1,10 @@
 -- What a call makes of one session, and a running world with it. Callers want `turn_from`, `turn_self`, `turn_put`,
--- `rollback_as`, `moved_kept` and `placed_running`.
-use Rattle.std.proofs.Common.{◌≡◌, ◌≢◌, ◌⊎◌, Bool, true, false, cond, eqb, ◌||◌, List, map, Option, le_refl}
+-- `rollback_as` and `placed_running`.
+use Rattle.std.proofs.Common.{◌≡◌, ◌≢◌, ◌⊎◌, Bool, true, false, cond, eqb, ◌||◌, List, map, le_refl}
 use Rattle.std.proofs.Common.{sym, ap, subst, ◌∙◌, refl, inl, inr, is_some, map-id}
 use Rattle.std.proofs.lemmas.Bool.{and_parts, and_from, or_cases, or_left, or_right, eqb-true, eqb-false}
 use Rattle.apex_base.specs.declared.numbers.SessionId.{SessionId}
 use Rattle.apex_base.specs.declared.records.Record.{Record}
-use Rattle.apex_base.specs.declared.records.RollbackState.{RollbackState}
-use Rattle.apex_base.specs.declared.records.State.{State}
 use Rattle.apex_base.specs.Commit.{rolls_back}
 use Rattle.apex_base.specs.Held.{is_unfinished, is_undoable, is_available, is_success}
 use Rattle.apex_base.specs.Members.{In}
@@ -150,7 +148,3 @@ module _ (w : World) (run : Running w) (r s : Record) (h : In r w.sessions) (sam
   pub placed_running : Running (record w { sessions = with_session s w.sessions; clock = w.clock })
   placed_running = subst (λ (ss : List Record). Running (record w { sessions = ss; clock = w.clock })) (sym as_map)
       (turned_running w run g ids turns apart w.clock (le_refl w.clock) run.lawful.ranges.clock)
-
--- a session with another state and another rollback is kept otherwise
-pub moved_kept : (r : Record) (t : State) (o : Option RollbackState) → IsKeptAs r (record r { state = t; rollback = o })
-moved_kept r t o = record { id = refl; children = refl; kind = refl; parts = refl; print = refl }

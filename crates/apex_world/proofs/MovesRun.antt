@@ -18,7 +18,8 @@ use Rattle.apex_world.specs.Running.{Running}
 use Rattle.apex_world.specs.World.{World}
 use Rattle.apex_world.proofs.TurnedSessions.{Turns}
 use Rattle.apex_world.proofs.MoveStates.{ready_move, abort_move}
-use Rattle.apex_world.proofs.MovedSessions.{turn_from, rollback_as, placed_running, moved_kept}
+use Rattle.apex_world.proofs.MovedSessions.{turn_from, rollback_as, placed_running}
+use Rattle.apex_world.proofs.LeadsLemmas.{changed}
 
 -- an abort gives nobody a rollback, and takes none away
 abort_some : (o : Option RollbackState) → is_some (rollback_after step_of.Abort o) ≡ is_some o
@@ -60,7 +61,7 @@ module _ (w : World) (run : Running w) where
   ready_turn r t h e =
       let (m, u) = ready_move r.state t e in
       let s : Record = record r { state = t; rollback = r.rollback } in
-      turn_from w run.lawful r s h (moved_kept r t r.rollback) refl refl (run.lawful.ranges.sessions r h).moment m
+      turn_from w run.lawful r s h (changed r) refl refl (run.lawful.ranges.sessions r h).moment m
       (rollback_as r s (run.lawful.rollbacks.each r h) refl refl refl (λ e. (e, u)) (λ e. e) refl m.success) refl
       (λ e. inr e)
 
@@ -70,7 +71,7 @@ module _ (w : World) (run : Running w) where
   abort_turn r t h e =
       let m = abort_move r.state t e in
       let s : Record = record r { state = t; rollback = rollback_after step_of.Abort r.rollback } in
-      turn_from w run.lawful r s h (moved_kept r t (rollback_after step_of.Abort r.rollback)) refl refl
+      turn_from w run.lawful r s h (changed r) refl refl
       (run.lawful.ranges.sessions r h).moment m
       (rollback_as r s (run.lawful.rollbacks.each r h) refl refl (abort_some r.rollback)
       (λ e. absurd (abort_enabling r.rollback e)) (abort_available r.rollback) (abort_committed r.rollback) m.success)

@@ -7,8 +7,6 @@ use Rattle.std.proofs.lemmas.Bool.{and_parts, and_from, eq-eqb}
 use Rattle.std.proofs.lemmas.List.FromFn.{length-map-range_with_len}
 use Rattle.apex_base.specs.declared.numbers.SessionId.{SessionId}
 use Rattle.apex_base.specs.declared.records.Record.{Record}
-use Rattle.apex_base.specs.declared.records.State.{State}
-use Rattle.apex_base.specs.declared.records.State.TheVariants as state
 use Rattle.apex_base.specs.declared.records.Target.TheVariants as targets
 use Rattle.apex_base.specs.Held.{kept, is_module, is_target, is_undoable}
 use Rattle.apex_base.specs.Members.{In}
@@ -34,22 +32,13 @@ use Rattle.apex_world.proofs.OpenedTables.{contents_again, watches_again}
 use Rattle.apex_world.proofs.RowWeightLemmas.{own_files}
 use Rattle.apex_world.proofs.StoredAlikeLemmas.{rows_agree}
 use Rattle.apex_world.proofs.WorldRows.{submission_of}
+use Rattle.apex_world.proofs.StateFacts.{undoable_activated}
 
 same_option : {X : Type 0} (o p : Option X) → ((v : X) → o ≡ Some v → p ≡ Some v)
     → ((v : X) → p ≡ Some v → o ≡ Some v) → o ≡ p
 same_option None None f g = refl
 same_option None (Some v) f g = g v refl
 same_option (Some v) p f g = sym (f v refl)
-
-undoable_activated : (s : State) → is_undoable s ≡ true → never_activated s ≡ false
-undoable_activated state.Verified e = absurd (cc)
-undoable_activated state.Staged e = absurd (cc)
-undoable_activated state.Activated e = refl
-undoable_activated state.ActivationFailed e = absurd (cc)
-undoable_activated state.Success e = refl
-undoable_activated state.RevertInProgress e = refl
-undoable_activated state.Reverted e = refl
-undoable_activated state.Aborted e = absurd (cc)
 
 not_zero : (n : ℕ) → not (eqb n 0) ≡ true → n ≡ 0 → ⊥
 not_zero n e z = absurd (cc (e, eq-eqb n 0 z))

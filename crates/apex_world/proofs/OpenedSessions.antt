@@ -1,28 +1,26 @@
 -- The rows of a lawful world open to its sessions. Callers want `same_opened`.
-use Rattle.std.proofs.Common.{◌≡◌, ℕ, ◌<◌, ◌^◌, Bool, cond, ltb, List, [], ◌∷◌, drop, Option, Some, None, sym, ap}
+use Rattle.std.proofs.Common.{◌≡◌, ◌<◌, ◌^◌, Bool, cond, ltb, List, [], ◌∷◌, Option, Some, None, sym, ap}
 use Rattle.std.proofs.Common.{subst, ◌∙◌, refl, inl, inr, arith}
-use Rattle.std.specs.Prelude.{fold, option_and_then}
-use Rattle.std.specs.Int.{w32, from_be_bytes}
+use Rattle.std.specs.Prelude.{option_and_then}
 use Rattle.std.specs.List.{AllByRecursion}
 use Rattle.std.specs.Option.{option_map}
 use Rattle.std.specs.FinMap as fin
-use Rattle.std.proofs.lemmas.Bool.{lt-ltb, ltb-true, cases_eq}
-use Rattle.std.proofs.lemmas.Nat.{from_be_bytes-to_be_bytes_4}
+use Rattle.std.proofs.lemmas.Bool.{lt-ltb, ltb-true}
 use Rattle.apex_base.specs.declared.numbers.SessionId.{SessionId}
 use Rattle.apex_base.specs.declared.records.Record.{Record}
 use Rattle.apex_base.specs.Keys.{RecordOf, key_text, RowMap}
 use Rattle.apex_base.specs.Members.{In}
-use Rattle.apex_base.specs.Sessions.{session_of, with_session, Ascend}
+use Rattle.apex_base.specs.Sessions.{session_of, Ascend}
 use Rattle.apex_base.specs.Spelling.{record_text, record_of}
 use Rattle.apex_base.proofs.Finding.{some_if}
-use Rattle.apex_base.proofs.MemberLemmas.{in_map, each_in}
-use Rattle.apex_base.proofs.RowMaps.{in_ends}
-use Rattle.apex_base.proofs.SessionLemmas.{ascend_with, with_self, with_others, with_any, of_found, of_in}
+use Rattle.apex_base.proofs.MemberLemmas.{each_in}
+use Rattle.apex_base.proofs.SessionLemmas.{of_found, of_in}
 use Rattle.apex_base.proofs.SpellingLemmas.{record_again}
 use Rattle.apex_world.specs.Lawful.{Lawful}
-use Rattle.apex_world.specs.Opened.{record_in, with_some, ids_in, opened_sessions}
+use Rattle.apex_world.specs.Opened.{record_in, ids_in, opened_sessions}
 use Rattle.apex_world.specs.Rows.{rows}
 use Rattle.apex_world.specs.World.{World}
+use Rattle.apex_world.proofs.PlacedSessions.{in_ids, opened_ascend, opened_known, opened_there}
 use Rattle.apex_world.proofs.WorldRows.{record_id, record_at, same_id}
 
 -- Lists that ascend
@@ -65,65 +63,22 @@ same_members (x ∷ xs) (y ∷ ys) a b there back =
     (λ r h. later y r ys xs b h (subst (λ (z : Record). In r (z ∷ xs)) one (back r (inr h)))) in
     cc (one, rest)
 
--- Sessions that are put in their places
+-- Sessions that are opened
 
 module _ (m : RowMap) (ws : List Record) (a : Ascend ws) (sound : (id : SessionId) (r : Record)
     → record_in m id ≡ Some r → In r ws) where
-  abbrev next : List Record → SessionId → List Record
-  next ss id = with_some (record_in m id) ss
+  abbrev Among : Record → Type 0
+  Among r = In r ws
 
-  ascend_some : (o : Option Record) (ss : List Record) → Ascend ss → Ascend (with_some o ss)
-  ascend_some None ss h = h
-  ascend_some (Some r) ss h = ascend_with r ss h
-
-  ascends : (ids : List SessionId) (ss : List Record) → Ascend ss → Ascend (fold next ss ids)
-  ascends [] ss h = h
-  ascends (id ∷ ids) ss h = ascends ids (next ss id) (ascend_some (record_in m id) ss h)
-
-  back_some : (o : Option Record) (ss : List Record) (r : Record) → ((s : Record) → o ≡ Some s → In s ws)
-      → ((s : Record) → In s ss → In s ws) → In r (with_some o ss) → In r ws
-  back_some None ss r new old i = old r i
-  back_some (Some s) ss r new old i =
-      elim (with_any s ss r i) [
-        | inl e ↦ subst (λ (x : Record). In x ws) (sym e) (new s refl)
-        | inr j ↦ old r j
-      ]
-
-  backs : (ids : List SessionId) (ss : List Record) (r : Record) → ((s : Record) → In s ss → In s ws)
-      → In r (fold next ss ids) → In r ws
-  backs [] ss r old i = old r i
-  backs (id ∷ ids) ss r old i = backs ids (next ss id) r
-      (λ s j. back_some (record_in m id) ss s (λ t e. sound id t e) old j) i
-
-  stays_some : (o : Option Record) (ss : List Record) (r : Record) → ((s : Record) → o ≡ Some s → In s ws) → In r ws
-      → In r ss → In r (with_some o ss)
-  stays_some None ss r new h i = i
-  stays_some (Some s) ss r new h i =
-      elim (cases_eq r.id.0 s.id.0) [
-        | inl e ↦ subst (λ (x : Record). In x (with_session s ss)) (one_session ws s r a (new s refl) h (sym e))
-            (with_self s ss)
-        | inr d ↦ with_others s ss r i d
-      ]
-
-  stays : (ids : List SessionId) (ss : List Record) (r : Record) → In r ws → In r ss → In r (fold next ss ids)
-  stays [] ss r h i = i
-  stays (id ∷ ids) ss r h i = stays ids (next ss id) r h (stays_some (record_in m id) ss r (λ s e. sound id s e) h i)
-
-  comes : (ids : List SessionId) (ss : List Record) (id : SessionId) (r : Record) → In id ids
-      → record_in m id ≡ Some r → In r (fold next ss ids)
-  comes [] ss id r h e = absurd h
-  comes (x ∷ ids) ss id r (inl same) e =
-      let at_x : record_in m x ≡ Some r = ap (record_in m) same ∙ e in
-      stays ids (next ss x) r (sound x r at_x) (subst (λ (o : Option Record). In r (with_some o ss)) (sym at_x)
-      (with_self r ss))
-  comes (x ∷ ids) ss id r (inr h) e = comes ids (next ss x) id r h e
+  one : (r s : Record) → Among r → Among s → r.id.0 ≡ s.id.0 → r ≡ s
+  one r s h i e = one_session ws r s a h i e
 
   -- the sessions that are opened are these, where each of them has its record
   pub sessions_opened : ((r : Record) → In r ws → In r.id (ids_in m) × (record_in m r.id ≡ Some r))
       → opened_sessions m ≡ ws
   sessions_opened each =
-      same_members _ ws (ascends (ids_in m) [] tt) a (λ r h. backs (ids_in m) [] r (λ s i. absurd i) h)
-      (λ r h. let (i, e) = each r h in comes (ids_in m) [] r.id r i e)
+      same_members _ ws (opened_ascend m) a (opened_known m Among one sound)
+      (λ r h. let (i, e) = each r h in opened_there m Among one sound r.id r i e)
 
 module _ (w : World) (law : Lawful w) where
   read_if : (id : SessionId) (o : Option Record) (r : Record) → session_of w.sessions id ≡ o
@@ -150,11 +105,7 @@ module _ (w : World) (law : Lawful w) where
       let l = record_id w law r h in
       let here : fin.get (rows w) (key_text (RecordOf r.id)) ≡ Some (record_text r) = record_at w law r.id l
       ∙ ap (option_map record_text) (of_in w.sessions r law.ids.ascend h) in (
-        subst (λ (id : SessionId). In id (ids_in (rows w)))
-            (ap (λ (n : ℕ). record { 0 = n }) (from_be_bytes-to_be_bytes_4 r.id.0 l))
-            (in_map (λ (bytes : List ℕ). record { 0 = from_be_bytes w32 bytes })
-            (drop 1 (key_text (RecordOf r.id))) _ (in_ends 1 (rows w) (key_text (RecordOf r.id))
-            (record_text r) here)),
+        in_ids (rows w) r.id (record_text r) l here,
         ap (λ (b : Bool). cond b (option_and_then (record_of r.id) (fin.get (rows w) (key_text (RecordOf r.id))))
             None) (lt-ltb r.id.0 4294967296 l)
             ∙ ap (option_and_then (record_of r.id)) here ∙ record_again r (law.ranges.sessions r h),

@@ -32,14 +32,6 @@ is_succeeding = record {
 
 -- A rollback that is no longer available
 
--- nobody gets a rollback, and none is taken away
-pub longer_some : (o : Option RollbackState) → is_some (no_longer o) ≡ is_some o
-longer_some None = refl
-longer_some (Some Enabling) = refl
-longer_some (Some Available) = refl
-longer_some (Some Committed) = refl
-longer_some (Some Deleted) = refl
-
 -- a rollback that is being enabled stays so
 pub longer_enabling : (o : Option RollbackState) → is_enabling (no_longer o) ≡ is_enabling o
 longer_enabling None = refl
@@ -55,14 +47,6 @@ longer_available (Some Enabling) = refl
 longer_available (Some Available) = refl
 longer_available (Some Committed) = refl
 longer_available (Some Deleted) = refl
-
--- a rollback that is committed stays so
-pub longer_committed : (o : Option RollbackState) → is_committed (no_longer o) ≡ is_committed o
-longer_committed None = refl
-longer_committed (Some Enabling) = refl
-longer_committed (Some Available) = refl
-longer_committed (Some Committed) = refl
-longer_committed (Some Deleted) = refl
 
 -- a rollback that is being enabled is one, and isn't committed
 pub enabling_some : (o : Option RollbackState) → is_enabling o ≡ true → (is_some o ≡ true) × (is_committed o ≡ false)

@@ -10,8 +10,6 @@ use Rattle.apex_base.specs.declared.records.Kind.{Kind}
 use Rattle.apex_base.specs.declared.records.Kind.TheVariants.{Plain, WithRollback, RollbackOf}
 use Rattle.apex_base.specs.declared.records.Part.{Part}
 use Rattle.apex_base.specs.declared.records.Record.{Record}
-use Rattle.apex_base.specs.declared.records.State.{State}
-use Rattle.apex_base.specs.declared.records.State.TheVariants as state
 use Rattle.apex_base.specs.declared.records.Target.{Target}
 use Rattle.apex_base.specs.declared.records.Target.TheVariants as targets
 use Rattle.apex_base.specs.Commit.{part_before}
@@ -21,10 +19,11 @@ use Rattle.apex_base.specs.Sessions.{session_of}
 use Rattle.apex_base.proofs.Finding.{found}
 use Rattle.apex_base.proofs.MemberLemmas.{in_map_back}
 use Rattle.apex_base.proofs.SessionLemmas.{of_found}
-use Rattle.apex_world.specs.Lawful.{Lawful, AreOwn, never_activated}
+use Rattle.apex_world.specs.Lawful.{Lawful, AreOwn}
 use Rattle.apex_world.specs.Rows.{undoes}
 use Rattle.apex_world.specs.World.{World, boots}
 use Rattle.apex_world.proofs.OpenedSessions.{one_session}
+use Rattle.apex_world.proofs.StateFacts.{success_activated}
 
 -- The latest of a kind is no module, or that of a part
 
@@ -79,16 +78,6 @@ own_at id k (q ∷ ps) p a (inr h) = own_at id (k + 1) ps p a.1 h
 abbrev pub target_session : Target → ℕ
 target_session targets.Preinstalled = 0
 target_session (targets.Module session part version) = session.0
-
-success_activated : (s : State) → is_success s ≡ true → never_activated s ≡ false
-success_activated state.Verified e = absurd (cc)
-success_activated state.Staged e = absurd (cc)
-success_activated state.Activated e = refl
-success_activated state.ActivationFailed e = absurd (cc)
-success_activated state.Success e = refl
-success_activated state.RevertInProgress e = refl
-success_activated state.Reverted e = refl
-success_activated state.Aborted e = absurd (cc)
 
 module _ (w : World) (law : Lawful w) where
   -- an ordinary session submitted the module

@@ -48,7 +48,7 @@ use Rattle.apex_world.specs.Submit.{pass, admitted, entered, new_session, image_
 use Rattle.apex_world.specs.Trigger.{Triggered, triggered, eligible}
 use Rattle.apex_world.specs.Watching.{watches_after, lasting}
 use Rattle.apex_world.specs.Follows.{IsKeptAs}
-use Rattle.apex_world.proofs.LeadsLemmas.{same, kept_on}
+use Rattle.apex_world.proofs.LeadsLemmas.{changed, same, kept_on}
 
 -- Fields that stay
 
@@ -148,17 +148,7 @@ reverted_keeps state.Staged r = (same r, refl)
 reverted_keeps state.Activated r = (same r, refl)
 reverted_keeps state.ActivationFailed r = (same r, refl)
 reverted_keeps state.Success r = (same r, refl)
-reverted_keeps state.RevertInProgress r = (
-  record {
-    id = refl;
-    children = refl;
-    kind = refl;
-    parts = refl;
-    print =
-        refl;
-  },
-  refl,
-)
+reverted_keeps state.RevertInProgress r = (changed r, refl)
 reverted_keeps state.Reverted r = (same r, refl)
 reverted_keeps state.Aborted r = (same r, refl)
 
@@ -166,59 +156,26 @@ rebuilt_keeps : (st : State) (b : Bool) (r : Record) → IsKeptAs r (rebuilt_in 
 rebuilt_keeps state.Verified b r = same r
 rebuilt_keeps state.Staged b r = same r
 rebuilt_keeps state.Activated true r = same r
-rebuilt_keeps state.Activated false r = record { id = refl; children = refl; kind = refl; parts = refl; print = refl }
+rebuilt_keeps state.Activated false r = changed r
 rebuilt_keeps state.ActivationFailed b r = same r
 rebuilt_keeps state.Success b r = same r
 rebuilt_keeps state.RevertInProgress b r = same r
 rebuilt_keeps state.Reverted b r = same r
 rebuilt_keeps state.Aborted b r = same r
 
+pub rebuilt_kept : (image : Image) (r : Record) → IsKeptAs r (rebuilt image r)
+rebuilt_kept image r =
+    let s = rebuilt_in r.state (is_same_build image r) r in
+    kept_on r s (rebuilt image r) (rebuilt_keeps r.state (is_same_build image r) r) (changed s)
+
 pub activated_keeps : (st : State) (b : Bool) (cause : Option Cause) (n : ℕ) (r : Record)
     → IsKeptAs r (activated_in st b cause n r) × ((activated_in st b cause n r).rollback ≡ r.rollback)
 activated_keeps state.Verified b cause n r = (same r, refl)
-activated_keeps state.Staged true None n r = (
-  record {
-    id = refl;
-    children = refl;
-    kind = refl;
-    parts = refl;
-    print =
-        refl;
-  },
-  refl,
-)
-activated_keeps state.Staged true (Some cause) n r = (
-  record {
-    id = refl;
-    children = refl;
-    kind = refl;
-    parts = refl;
-    print = refl;
-  },
-  refl,
-)
-activated_keeps state.Staged false cause n r = (
-  record {
-    id = refl;
-    children = refl;
-    kind = refl;
-    parts = refl;
-    print =
-        refl;
-  },
-  refl,
-)
+activated_keeps state.Staged true None n r = (changed r, refl)
+activated_keeps state.Staged true (Some cause) n r = (changed r, refl)
+activated_keeps state.Staged false cause n r = (changed r, refl)
 activated_keeps state.Activated b None n r = (same r, refl)
-activated_keeps state.Activated b (Some cause) n r = (
-  record {
-    id = refl;
-    children = refl;
-    kind = refl;
-    parts = refl;
-    print = refl;
-  },
-  refl,
-)
+activated_keeps state.Activated b (Some cause) n r = (changed r, refl)
 activated_keeps state.ActivationFailed b cause n r = (same r, refl)
 activated_keeps state.Success b cause n r = (same r, refl)
 activated_keeps state.RevertInProgress b cause n r = (same r, refl)
@@ -232,20 +189,10 @@ module _ (mounts : Mounts) (modules : List Submission) (image : Image) (n : ℕ)
   abbrev third : Record
   third = rebuilt image second
 
-  third_keeps : IsKeptAs second third
-  third_keeps = let k = rebuilt_keeps second.state (is_same_build image second) second in record {
-    id = k.id;
-    children =
-        k.children;
-    kind = k.kind;
-    parts = k.parts;
-    print = k.print;
-  }
-
   pub booted_keeps : IsKeptAs r (booted mounts modules image n r)
   booted_keeps =
       kept_on r second (booted mounts modules image n r) (reverted_keeps r.state r).0
-      (kept_on second third (booted mounts modules image n r) third_keeps (activated_keeps third.state
+      (kept_on second third (booted mounts modules image n r) (rebuilt_kept image second) (activated_keeps third.state
       (is_same_build image third) (cause_of mounts modules image.modules third.parts) n third).0)
 
   booted_none : r.rollback ≡ None → (booted mounts modules image n r).rollback ≡ None

@@ -8,7 +8,6 @@ use Rattle.apex_base.specs.declared.moves.Move.TheVariants as step_of
 use Rattle.apex_base.specs.declared.numbers.SessionId.{SessionId}
 use Rattle.apex_base.specs.declared.records.Record.{Record}
 use Rattle.apex_base.specs.declared.records.RollbackState.{RollbackState}
-use Rattle.apex_base.specs.declared.records.RollbackState.TheVariants.{Enabling, Available, Committed, Deleted}
 use Rattle.apex_base.specs.declared.records.State.{State}
 use Rattle.apex_base.specs.declared.records.State.TheVariants as state
 use Rattle.apex_base.specs.Commit.{rollback_id, rolls_back}
@@ -32,6 +31,7 @@ use Rattle.apex_world.proofs.MovesAlike.{goes_self}
 use Rattle.apex_world.proofs.OrderedAfter.{IsUnder, under_self, ordered_map}
 use Rattle.apex_world.proofs.StagedSome.{staged_some}
 use Rattle.apex_world.proofs.WorldRows.{same_id}
+use Rattle.apex_world.proofs.MayHappen.{may_as_before}
 
 -- What a revert leaves of a session
 
@@ -132,11 +132,7 @@ module _ (w : World) (law : Lawful w) where
 
   may_before : (id : SessionId) (o : Option RollbackState) → may_happen after id o ≡ true
       → may_happen w.sessions id o ≡ true
-  may_before id None m = absurd (cc)
-  may_before id (Some Enabling) m = refl
-  may_before id (Some Available) m = refl
-  may_before id (Some Committed) m = staged_before (rollback_id id) m
-  may_before id (Some Deleted) m = absurd (cc)
+  may_before id o m = may_as_before w.sessions after id o (λ c. staged_before (rollback_id id)) m
 
   -- a session keeps what it kept
   snapshot_same : (r s : Record) → IsSameBut r s → has_snapshot after s ≡ has_snapshot after r

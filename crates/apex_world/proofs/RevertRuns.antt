@@ -16,7 +16,8 @@ use Rattle.apex_world.specs.Running.{Running}
 use Rattle.apex_world.specs.Stepped.{refused, done}
 use Rattle.apex_world.specs.World.{World}
 use Rattle.apex_world.proofs.MoveStates.{IsMove, no_move, is_reverting}
-use Rattle.apex_world.proofs.MovedSessions.{turn_from, rollback_as, moved_kept}
+use Rattle.apex_world.proofs.LeadsLemmas.{changed}
+use Rattle.apex_world.proofs.MovedSessions.{turn_from, rollback_as}
 use Rattle.apex_world.proofs.TurnedLemmas.{peers_from}
 use Rattle.apex_world.proofs.TurnedRuns.{turned_running}
 use Rattle.apex_world.proofs.TurnedSessions.{Turns}
@@ -65,7 +66,7 @@ module _ (w : World) (run : Running w) where
       let s : Record = record r { state = t } in
       let (m, u) = revert_move r.state in
       subst (Turns r) (sym (in_state_as (moved r.state step_of.Revert) r))
-      (turn_from w run.lawful r s h (moved_kept r t r.rollback) refl refl (run.lawful.ranges.sessions r h).moment m
+      (turn_from w run.lawful r s h (changed r) refl refl (run.lawful.ranges.sessions r h).moment m
       (rollback_as r s (run.lawful.rollbacks.each r h) refl refl refl (λ e. (e, u)) (λ e. e) refl m.success) refl
       (λ e. inr e))
 

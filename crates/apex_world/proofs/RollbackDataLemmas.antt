@@ -35,10 +35,11 @@ use Rattle.apex_world.specs.Submit.{in_running}
 use Rattle.apex_world.specs.World.{World, Contents, boots, era}
 use Rattle.apex_world.proofs.BootSessions.{Loops, boot_loops, become_keeps, part_works}
 use Rattle.apex_world.proofs.BootTurns.{Turns, turns, moved_unfinished, activated_works, reverted_keeps, success_states}
-use Rattle.apex_world.proofs.BootTurns.{undoable_activated, reverted_undoable}
+use Rattle.apex_world.proofs.BootTurns.{reverted_undoable}
 use Rattle.apex_world.proofs.Lasting.{lasts}
 use Rattle.apex_world.proofs.Restored.{Restores, restored_all, restored_none, image_part}
 use Rattle.apex_world.proofs.RollbackIds.{lawful_undone, only_one}
+use Rattle.apex_world.proofs.StateFacts.{undoable_activated}
 
 -- A session that went to a state
 

@@ -1,7 +1,7 @@
 -- The rows of a lawful world weigh what its kept modules and its data weigh. Callers want `file_rows_weigh`,
--- `data_rows_weigh` and `own_files`.
+-- `middle_and_data_weigh` and `own_files`.
 use Rattle.std.proofs.Common.{◌≡◌, ◌≢◌, ℕ, Bool, true, false, cond, eqb, ◌&&◌, List, [], ◌∷◌, ◌++◌, map, flat_map}
-use Rattle.std.proofs.Common.{Option, Some, None, sym, ap, subst, ◌∙◌, refl, inl, inr, arith}
+use Rattle.std.proofs.Common.{Option, Some, None, sym, ap, subst, ◌∙◌, refl, inl, inr, arith, ◌+◌}
 use Rattle.std.specs.Prelude.{option_and_then}
 use Rattle.std.specs.List.{sum_by}
 use Rattle.std.specs.Option.{option_map}
@@ -22,7 +22,7 @@ use Rattle.apex_base.specs.Modules.{FileMap, file_weight}
 use Rattle.apex_base.specs.RowSums.{has_tag, file_row_weight, kept_weight}
 use Rattle.apex_base.specs.Tables.{Table, part_of}
 use Rattle.apex_base.proofs.Finding.{found, finds}
-use Rattle.apex_base.proofs.MemberLemmas.{in_map_back, in_flat_map_back, in_any, each_in}
+use Rattle.apex_base.proofs.MemberLemmas.{in_append, in_map_back, in_flat_map_back, in_any, each_in}
 use Rattle.apex_base.proofs.RowMaps.{below_in, sorted_entries, entry_get}
 use Rattle.apex_base.proofs.RowWeights.{AreOnce, AreLight, once_light, once_append, key_weight, rows_weight, light_sum}
 use Rattle.apex_world.specs.declared.world.Submission.{Submission}
@@ -200,6 +200,47 @@ once_map {X} heavy g light key last (e ∷ es) b = (
   once_map heavy g light key last es (and_parts _ _ b).1,
 )
 
+-- where the heavy rows are those of files or of data, all rows weigh what these do
+module _ (w : World) (law : Lawful w) (heavy : List ℕ → Bool) (g : List ℕ × List ℕ → ℕ)
+    (light : (k v : List ℕ) → heavy k ≡ false → g (k, v) ≡ 0) (boots_light : heavy (key_text Boots) ≡ false)
+    (front_light : AreLight heavy g light (front w)) (watch_light : AreLight heavy g light (watch_keys w)) where
+  abbrev weighed : Key → ℕ
+  weighed k = key_weight heavy g light (row_at w) k
+
+  once_each : AreOnce heavy g light (middle w) → AreOnce heavy g light (data_keys w)
+      → ((k : Key) → In k (middle w) → In k (data_keys w) → heavy (key_text k) ≡ false)
+      → AreOnce heavy g light (row_keys w)
+  once_each files entries apart =
+      let two = once_append heavy g light (front w) (middle w) (once_light heavy g light (front w) front_light) files
+      (λ k h i. front_light k h) in
+      let three = once_append heavy g light (front w ++ middle w) (data_keys w) two entries
+      (λ k h i. elim (in_append k (front w) (middle w) h) [
+        | inl l ↦ front_light k l
+        | inr l ↦ apart k l i
+      ]) in
+      let four = once_append heavy g light (front w ++ middle w ++ data_keys w) (watch_keys w) three
+      (once_light heavy g light (watch_keys w) watch_light) (λ k h i. watch_light k i) in
+      (inl boots_light, four)
+
+  pub middle_and_data_weigh : AreOnce heavy g light (middle w) → AreOnce heavy g light (data_keys w)
+      → ((k : Key) → In k (middle w) → In k (data_keys w) → heavy (key_text k) ≡ false)
+      → sum_by g (fin.entries (rows w)) ≡ sum_by weighed (middle w) + sum_by weighed (data_keys w)
+  middle_and_data_weigh files entries apart =
+      let a = rows_weight heavy g light (row_at w) (row_keys w) (world_keys w law).keyed
+      (once_each files entries apart) in
+      let b = sum_by-cons weighed Boots (front w ++ middle w ++ data_keys w ++ watch_keys w) in
+      let c = light_sum heavy g light (row_at w) (Boots ∷ []) (λ k h. elim h [
+        | inl e ↦ subst (λ (k : Key). heavy (key_text k) ≡ false) e boots_light
+        | inr n ↦ absurd n
+      ]) in
+      let c' = sum_by-cons weighed Boots [] in
+      let d = sum_by-append weighed (front w ++ middle w ++ data_keys w) (watch_keys w) in
+      let e = sum_by-append weighed (front w ++ middle w) (data_keys w) in
+      let f = sum_by-append weighed (front w) (middle w) in
+      let first = light_sum heavy g light (row_at w) (front w) front_light in
+      let last = light_sum heavy g light (row_at w) (watch_keys w) watch_light in
+      omega (arith, a, b, c, c', d, e, f, first, last)
+
 module _ (w : World) (law : Lawful w) where
   once_files : (ms : List Submission) → AreDistinct ms → AreOnce is_file file_row_weight file_light
       (flat_map file_keys ms)
@@ -286,27 +327,9 @@ module _ (w : World) (law : Lawful w) where
   -- the rows of files weigh what the kept modules do
   pub file_rows_weigh : kept_weight (rows w) ≡ weight w
   file_rows_weigh =
-      let two = once_append is_file file_row_weight file_light (front w) (middle w)
-      (once_light is_file file_row_weight file_light (front w) front_light)
-      (once_files w.modules law.modules.distinct) (λ k h i. front_light k h) in
-      let three = once_append is_file file_row_weight file_light (front w ++ middle w) (data_keys w) two
+      let a = middle_and_data_weigh w law is_file file_row_weight file_light refl front_light watch_light
+      (once_files w.modules law.modules.distinct)
       (once_light is_file file_row_weight file_light (data_keys w) data_light) (λ k h i. data_light k i) in
-      let four =
-      once_append is_file file_row_weight file_light (front w ++ middle w ++ data_keys w) (watch_keys w) three
-      (once_light is_file file_row_weight file_light (watch_keys w) watch_light) (λ k h i. watch_light k i) in
-      let once : AreOnce is_file file_row_weight file_light (row_keys w) = (inl refl, four) in
-      let a = rows_weight is_file file_row_weight file_light (row_at w) (row_keys w) (world_keys w law).keyed once in
-      let b = sum_by-cons row_weight Boots (front w ++ middle w ++ data_keys w ++ watch_keys w) in
-      let c = light_sum is_file file_row_weight file_light (row_at w) (Boots ∷ []) (λ k h. elim h [
-        | inl e ↦ subst (λ (k : Key). is_file (key_text k) ≡ false) e refl
-        | inr n ↦ absurd n
-      ]) in
-      let c' = sum_by-cons row_weight Boots [] in
-      let d = sum_by-append row_weight (front w ++ middle w ++ data_keys w) (watch_keys w) in
-      let e = sum_by-append row_weight (front w ++ middle w) (data_keys w) in
-      let f = sum_by-append row_weight (front w) (middle w) in
-      let g = light_sum is_file file_row_weight file_light (row_at w) (front w) front_light in
-      let h = light_sum is_file file_row_weight file_light (row_at w) (data_keys w) data_light in
-      let i = light_sum is_file file_row_weight file_light (row_at w) (watch_keys w) watch_light in
-      let j = modules_sum w.modules (λ s h. h) in
-      omega (arith, a, b, c, c', d, e, f, g, h, i, j)
+      let b = light_sum is_file file_row_weight file_light (row_at w) (data_keys w) data_light in
+      let c = modules_sum w.modules (λ s h. h) in
+      omega (arith, a, b, c)

@@ -1,5 +1,5 @@
--- What runs, and running worlds with other data or other watches. Callers want `image_of`, `runs_in`, `with_contents`
--- and `with_watches`.
+-- What runs, and running worlds with other data or other watches. Callers want `image_of`, `runs_in`,
+-- `ranges_with`, `with_contents` and `with_watches`.
 use Rattle.std.proofs.Common.{◌≡◌, ◌≢◌, ℕ, ◌*◌, ◌≤◌, true, List, length, map, Option, Some, sym, ap, subst, ◌∙◌, refl}
 use Rattle.std.proofs.Common.{arith}
 use Rattle.std.proofs.Common.{mul-le-mul_right, le_trans, is_some}
@@ -14,8 +14,10 @@ use Rattle.apex_base.specs.declared.records.Record.{Record}
 use Rattle.apex_base.specs.declared.records.Target.TheVariants as targets
 use Rattle.apex_base.specs.Held.{kept}
 use Rattle.apex_base.specs.Members.{In, EachPair}
+use Rattle.apex_base.specs.Modules.{IsModule}
 use Rattle.apex_base.specs.Numbers.{scale_modules, scale_data_weight}
 use Rattle.apex_base.specs.Ranges.{IsMillis}
+use Rattle.apex_base.specs.Spelling.{IsRecord}
 use Rattle.apex_base.specs.Tables.{NameMap, or_empty, value_of}
 use Rattle.apex_base.proofs.Finding.{is_there}
 use Rattle.apex_base.proofs.MemberLemmas.{in_map, any_in, in_each}
@@ -24,9 +26,9 @@ use Rattle.apex_base.proofs.TableLemmas.{some_value}
 use Rattle.apex_world.specs.declared.calls.Image.{Image}
 use Rattle.apex_world.specs.declared.calls.Observer.{Observer}
 use Rattle.apex_world.specs.declared.world.Submission.{Submission}
-use Rattle.apex_world.specs.Bounds.{table_len}
+use Rattle.apex_world.specs.Bounds.{HasLittleData, table_len}
 use Rattle.apex_world.specs.Data.{data_weight}
-use Rattle.apex_world.specs.Lawful.{Lawful, IsTable, IsRunningImage, HaveModules, part_at_place}
+use Rattle.apex_world.specs.Lawful.{AreInRange, Lawful, IsTable, IsRunningImage, HaveModules, part_at_place}
 use Rattle.apex_world.specs.Running.{Running, runs, is_registered}
 use Rattle.apex_world.specs.Selection.{submitted_by}
 use Rattle.apex_world.specs.Submit.{in_running}
@@ -65,6 +67,24 @@ modules_again w law v sessions modules = record {
       → s.part ≢ t.part) ms) (sym modules) law.modules.distinct;
   owned = λ s h. ap (λ (ss : List Record). is_some (part_at_place ss s.session s.part)) sessions
       ∙ law.modules.owned s (subst (λ (ms : List Submission). In s ms) modules h);
+}
+
+-- a world with other sessions, other modules and another clock is within its ranges, if these are
+pub ranges_with : (w : World) → AreInRange w → (ss : List Record) (ms : List Submission) (clock : ℕ)
+    → ((r : Record) → In r ss → IsRecord r) → ((s : Submission) → In s ms → IsModule s.content) → IsMillis clock
+    → AreInRange (record w { sessions = ss; modules = ms; clock = clock })
+ranges_with w ranges ss ms clock records files millis = record {
+  sessions = records;
+  modules = files;
+  contents = ranges.contents;
+  eras = ranges.eras;
+  moments = ranges.moments;
+  watches = ranges.watches;
+  ends = ranges.ends;
+  boots = ranges.boots;
+  clock = millis;
+  image = ranges.image;
+  observers = ranges.observers;
 }
 
 module _ (w : World) (run : Running w) where
@@ -116,57 +136,60 @@ module _ (w : World) (run : Running w) where
         let most = mul-le-mul_right (scale_modules w.scale) all in
         omega (arith, each, most, sum-map (λ (e : List ℕ × NameMap ℕ). fin.len e.1) (fin.entries t))
 
-  -- other data of names that run
+  -- the world with other data and other watches at a later moment is lawful, if they are within their ranges and bounds
+  lawful_with : (c : Contents) (t : Watches) (clock : ℕ) → IsTable c → IsTable t
+      → ((observer name : List ℕ) (end : ℕ) → value_of t observer name ≡ Some end → end ≤ 18014398509481982)
+      → IsMillis clock → HasLittleData w.scale c → table_len t ≤ 8 * scale_modules w.scale
+      → Lawful (record w { contents = c; watches = t; clock = clock })
+  lawful_with c t clock within table ends millis little few = record {
+    ranges = record {
+      sessions = run.lawful.ranges.sessions;
+      modules = run.lawful.ranges.modules;
+      contents = within;
+      eras = run.lawful.ranges.eras;
+      moments = run.lawful.ranges.moments;
+      watches = table;
+      ends = ends;
+      boots = run.lawful.ranges.boots;
+      clock = millis;
+      image = run.lawful.ranges.image;
+      observers = run.lawful.ranges.observers;
+    };
+    ids = run.lawful.ids;
+    parts = run.lawful.parts;
+    alone = run.lawful.alone;
+    activations = run.lawful.activations;
+    causes = run.lawful.causes;
+    rollbacks = run.lawful.rollbacks;
+    undone = run.lawful.undone;
+    modules = modules_again w run.lawful (record w { contents = c; watches = t; clock = clock }) refl refl;
+    bounds = record {
+      units = run.lawful.bounds.units;
+      weight = run.lawful.bounds.weight;
+      contents = little;
+      eras = run.lawful.bounds.eras;
+      undoable = run.lawful.bounds.undoable;
+      available = run.lawful.bounds.available;
+      waiting = run.lawful.bounds.waiting;
+      watches = few;
+    };
+    begun = run.lawful.begun;
+  }
+
+  -- with other data of names that run it runs
   module _ (c : Contents) (table : IsTable c)
       (named : (name : List ℕ) → is_some (fin.get c name) ≡ true → runs w name ≡ true)
       (weight : (name : List ℕ) → data_weight c name ≤ scale_data_weight w.scale) where
-    abbrev with_data : World
-    with_data = record w { contents = c }
-
-    -- the world with it is lawful
-    data_lawful : Lawful with_data
-    data_lawful = record {
-      ranges = record {
-        sessions = run.lawful.ranges.sessions;
-        modules = run.lawful.ranges.modules;
-        contents = table;
-        eras = run.lawful.ranges.eras;
-        moments = run.lawful.ranges.moments;
-        watches = run.lawful.ranges.watches;
-        ends = run.lawful.ranges.ends;
-        boots = run.lawful.ranges.boots;
-        clock = run.lawful.ranges.clock;
-        image = run.lawful.ranges.image;
-        observers = run.lawful.ranges.observers;
-      };
-      ids = run.lawful.ids;
-      parts = run.lawful.parts;
-      alone = run.lawful.alone;
-      activations = run.lawful.activations;
-      causes = run.lawful.causes;
-      rollbacks = run.lawful.rollbacks;
-      undone = run.lawful.undone;
-      modules = modules_again w run.lawful with_data refl refl;
-      bounds = record {
-        units = run.lawful.bounds.units;
-        weight = run.lawful.bounds.weight;
-        contents = record {
-          names = few_run c (λ name m e. named name (ap (λ (o : Option (NameMap (List ℕ))). is_some o) e));
-          weight = weight;
-        };
-        eras = run.lawful.bounds.eras;
-        undoable = run.lawful.bounds.undoable;
-        available = run.lawful.bounds.available;
-        waiting = run.lawful.bounds.waiting;
-        watches = run.lawful.bounds.watches;
-      };
-      begun = run.lawful.begun;
+    little : HasLittleData w.scale c
+    little = record {
+      names = few_run c (λ name m e. named name (ap (λ (o : Option (NameMap (List ℕ))). is_some o) e));
+      weight = weight;
     }
 
-    -- and it runs
     pub with_contents : Running (record w { contents = c })
     with_contents = record {
-      lawful = data_lawful;
+      lawful = lawful_with c w.watches w.clock table run.lawful.ranges.watches run.lawful.ranges.ends
+          run.lawful.ranges.clock little run.lawful.bounds.watches;
       image = run.image;
       sessions = run.sessions;
       contents = named;
@@ -176,56 +199,16 @@ module _ (w : World) (run : Running w) where
       past = run.past;
     }
 
-  -- other watches of registered observers and of names that run, at a later moment
+  -- and with other watches of registered observers and of names that run, at a later moment
   module _ (t : Watches) (clock : ℕ) (table : IsTable t)
       (ends : (observer name : List ℕ) (end : ℕ) → value_of t observer name ≡ Some end → end ≤ 18014398509481982)
       (run_all : (observer name : List ℕ) (end : ℕ) → value_of t observer name ≡ Some end → runs w name ≡ true)
       (registered : (observer name : List ℕ) (end : ℕ) → value_of t observer name ≡ Some end
       → is_registered w observer ≡ true) (later : w.clock ≤ clock) (millis : IsMillis clock) where
-    abbrev watched_world : World
-    watched_world = record w { watches = t; clock = clock }
-
-    -- the world with them is lawful
-    watches_lawful : Lawful watched_world
-    watches_lawful = record {
-      ranges = record {
-        sessions = run.lawful.ranges.sessions;
-        modules = run.lawful.ranges.modules;
-        contents = run.lawful.ranges.contents;
-        eras = run.lawful.ranges.eras;
-        moments = run.lawful.ranges.moments;
-        watches = table;
-        ends = ends;
-        boots = run.lawful.ranges.boots;
-        clock = millis;
-        image = run.lawful.ranges.image;
-        observers = run.lawful.ranges.observers;
-      };
-      ids = run.lawful.ids;
-      parts = run.lawful.parts;
-      alone = run.lawful.alone;
-      activations = run.lawful.activations;
-      causes = run.lawful.causes;
-      rollbacks = run.lawful.rollbacks;
-      undone = run.lawful.undone;
-      modules = modules_again w run.lawful watched_world refl refl;
-      bounds = record {
-        units = run.lawful.bounds.units;
-        weight = run.lawful.bounds.weight;
-        contents = run.lawful.bounds.contents;
-        eras = run.lawful.bounds.eras;
-        undoable = run.lawful.bounds.undoable;
-        available = run.lawful.bounds.available;
-        waiting = run.lawful.bounds.waiting;
-        watches = few_watches t table run_all registered;
-      };
-      begun = run.lawful.begun;
-    }
-
-    -- and it runs
     pub with_watches : Running (record w { watches = t; clock = clock })
     with_watches = record {
-      lawful = watches_lawful;
+      lawful = lawful_with w.contents t clock run.lawful.ranges.contents table ends millis run.lawful.bounds.contents
+          (few_watches t table run_all registered);
       image = run.image;
       sessions = run.sessions;
       contents = run.contents;

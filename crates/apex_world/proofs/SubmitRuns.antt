@@ -1,7 +1,7 @@
 -- Worlds run on after Submit. Callers want `submit_running`.
 use Rattle.std.proofs.Common.{◌≡◌, ℕ, ◌≤◌, Bool, true, false, IsTrue, List}
 use Rattle.std.proofs.Common.{Option, Some, None, Result, Ok, Err, sym, ap, subst, ◌∙◌, refl, inl, inr, is_some}
-use Rattle.std.proofs.Common.{le_trans}
+use Rattle.std.proofs.Common.{le_trans, ◌++◌}
 use Rattle.std.proofs.lemmas.Bool.{false≢true, leb-true}
 use Rattle.apex_base.specs.declared.numbers.SessionId.{SessionId}
 use Rattle.apex_base.specs.declared.records.Record.{Record}
@@ -34,6 +34,7 @@ use Rattle.apex_world.proofs.NewSession.{rollback_idle, rollback_new, all_with, 
 use Rattle.apex_world.proofs.NewSession.{ids_with, alone_with, available_with}
 use Rattle.apex_world.proofs.SessionBeside.{count_with}
 use Rattle.apex_world.proofs.NewModules.{new_printed, modules_with}
+use Rattle.apex_world.proofs.RunningLemmas.{ranges_with}
 
 -- the image needs no name of a new session
 new_idle : (id : SessionId) (children : List SessionId) (b : Bool) (ps : List Package) (print : List ℕ)
@@ -74,25 +75,15 @@ module _ (w : World) (run : Running w) (id : SessionId) (children : List Session
   -- the world with the new session is lawful, if it is within its scale
   entered_lawful : units world ≤ scale_units w.scale → weight world ≤ scale_file_weight w.scale → Lawful world
   entered_lawful few light = record {
-    ranges = record {
-      sessions = all_with w law id children rollback parts ps print is printed IsRecord
-          (record_new w law id children rollback parts ps print is printed) law.ranges.sessions;
-      modules = λ s h. elim (in_append s w.modules given h) [
-        | inl i ↦ law.ranges.modules s i
-        | inr i ↦
-            let at = submitted_at id 0 ps s i in
-            subst IsModule (sym at.content) (modules at.given.content (is.packages at.given at.among).among)
-      ];
-      contents = law.ranges.contents;
-      eras = law.ranges.eras;
-      moments = law.ranges.moments;
-      watches = law.ranges.watches;
-      ends = law.ranges.ends;
-      boots = law.ranges.boots;
-      clock = law.ranges.clock;
-      image = law.ranges.image;
-      observers = law.ranges.observers;
-    };
+    ranges = ranges_with w law.ranges after (w.modules ++ given) w.clock
+        (all_with w law id children rollback parts ps print is printed IsRecord
+        (record_new w law id children rollback parts ps print is printed) law.ranges.sessions)
+        (λ s h. elim (in_append s w.modules given h) [
+          | inl i ↦ law.ranges.modules s i
+          | inr i ↦
+              let at = submitted_at id 0 ps s i in
+              subst IsModule (sym at.content) (modules at.given.content (is.packages at.given at.among).among)
+        ]) law.ranges.clock;
     ids = ids_with w law id children rollback parts ps print is printed;
     parts = all_with w law id children rollback parts ps print is printed HasParts
         (parts_new w law id children rollback parts ps print is printed) law.parts;

@@ -31,6 +31,8 @@ use Rattle.apex_world.proofs.OpenedSessions.{one_session}
 use Rattle.apex_world.proofs.OrderedAfter.{IsUnder, ordered_after}
 use Rattle.apex_world.proofs.StagedSome.{staged_some}
 use Rattle.apex_world.proofs.WorldRows.{same_id}
+use Rattle.apex_world.proofs.StateFacts.{success_from}
+use Rattle.apex_world.proofs.MayHappen.{may_as_before, may_if_no_longer}
 
 -- What a success leaves of a session
 
@@ -222,19 +224,7 @@ module _ (w : World) (law : Lawful w) (clock : ℕ) (r : Record) (h : In r w.ses
 
   may_before : (id : SessionId) (o : Option RollbackState) → may_happen after id o ≡ true
       → may_happen w.sessions id o ≡ true
-  may_before id None m = absurd (cc)
-  may_before id (Some Enabling) m = refl
-  may_before id (Some Available) m = refl
-  may_before id (Some Committed) m = staged_before (rollback_id id) m
-  may_before id (Some Deleted) m = absurd (cc)
-
-  longer_before : (id : SessionId) (o : Option RollbackState) → may_happen after id (no_longer o) ≡ true
-      → may_happen w.sessions id o ≡ true
-  longer_before id None m = absurd (cc)
-  longer_before id (Some Enabling) m = refl
-  longer_before id (Some Available) m = refl
-  longer_before id (Some Committed) m = staged_before (rollback_id id) m
-  longer_before id (Some Deleted) m = absurd (cc)
+  may_before id o m = may_as_before w.sessions after id o (λ c. staged_before (rollback_id id)) m
 
   outdated_before : (q s : Record) → IsOutdated q s → may_happen after s.id s.rollback ≡ true
       → may_happen w.sessions q.id q.rollback ≡ true
@@ -242,8 +232,9 @@ module _ (w : World) (law : Lawful w) (clock : ℕ) (r : Record) (h : In r w.ses
       elim o.rollback [
         | Same e ↦ may_before q.id q.rollback (ap (λ id. may_happen after id q.rollback) (sym o.like.id)
             ∙ ap (may_happen after s.id) (sym e) ∙ m)
-        | NoLonger e ↦ longer_before q.id q.rollback (ap (λ id. may_happen after id (no_longer q.rollback))
-            (sym o.like.id) ∙ ap (may_happen after s.id) (sym e) ∙ m)
+        | NoLonger e ↦ may_before q.id q.rollback (may_if_no_longer after q.id q.rollback
+            (ap (λ id. may_happen after id (no_longer q.rollback)) (sym o.like.id)
+            ∙ ap (may_happen after s.id) (sym e) ∙ m))
       ]
 
   enabling_before : (b : Bool) → is_enabling r.rollback ≡ b
@@ -288,16 +279,6 @@ module _ (w : World) (law : Lawful w) (clock : ℕ) (r : Record) (h : In r w.ses
       ]
 
 -- The call
-
-pub success_from : (s t : State) → moved s step_of.Success ≡ Some t → is_success s ≡ false → s ≡ state.Activated
-success_from state.Verified t e f = absurd (cc)
-success_from state.Staged t e f = absurd (cc)
-success_from state.Activated t e f = refl
-success_from state.ActivationFailed t e f = absurd (cc)
-success_from state.Success t e f = absurd (cc)
-success_from state.RevertInProgress t e f = absurd (cc)
-success_from state.Reverted t e f = absurd (cc)
-success_from state.Aborted t e f = absurd (cc)
 
 module _ (w v : World) (a : AreAlikeInParts w v) (law : Lawful w) (clock : ℕ) where
   abbrev marked : Bool → Record → World → World

@@ -20,7 +20,6 @@ use Rattle.apex_world.specs.RowsMoved.{outdates, goes_back_to, gives_up_file}
 use Rattle.apex_world.specs.World.{World}
 use Rattle.apex_world.proofs.AlikeAfter.{IsLike, target_in, in_target}
 use Rattle.apex_world.proofs.KeptLemmas.{Own, Holds, Backs, kept_back, keeps, names_own, eq_name, ordered, same_latest}
-use Rattle.apex_world.proofs.KeptLemmas.{unfinished_as}
 use Rattle.apex_world.proofs.OpenedSessions.{one_session}
 use Rattle.apex_world.proofs.SessionMaps.{put_for}
 use Rattle.apex_world.proofs.OutdatedRollbacks.{sharing}
@@ -28,6 +27,7 @@ use Rattle.apex_world.proofs.TurnedLists.{by_answer, held_same}
 use Rattle.apex_world.proofs.WorldRows.{same_name}
 use Rattle.apex_world.proofs.SucceededSessions.{not_outdated, either, like, now_is, other_state, standing, none_beside}
 use Rattle.apex_world.proofs.SucceededSessions.{before_is}
+use Rattle.apex_world.proofs.StateFacts.{undoable_unfinished}
 
 -- of parts with different names, the one of a name is found by it
 part_found : (ps : List Part) (p : Part) → EachPair (λ (p q : Part). p.name ≢ q.name) ps → In p ps
@@ -113,7 +113,7 @@ module _ (w : World) (law : Lawful w) (clock : ℕ) (r : Record) (h : In r w.ses
             (Backs (or_left (is_undoable (g x).state) (is_available (g x).rollback)
             (ap is_undoable (other_so x is) ∙ u))
             (e ∙ sym (before_is w law clock r h active x p.name i
-            (λ m. none_beside w law clock r h active x p.name i d n m (unfinished_as x.state u))))))
+            (λ m. none_beside w law clock r h active x p.name i d n m (undoable_unfinished x.state u))))))
         | inr a ↦ by_answer (shares x r)
             (λ s. Outdated x i (and_from (shares x r) (is_available x.rollback) s a)
             (subst (λ (y : Target). In y (befores x)) (sym e)

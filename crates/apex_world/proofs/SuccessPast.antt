@@ -14,7 +14,7 @@ use Rattle.apex_base.specs.Members.{In}
 use Rattle.apex_base.specs.Rollbacks.{is_enabling, no_longer}
 use Rattle.apex_base.specs.Sessions.{shares, session_of}
 use Rattle.apex_base.proofs.SessionLemmas.{of_found}
-use Rattle.apex_world.specs.Advance.{succeeding, outdated_by, after_success}
+use Rattle.apex_world.specs.Advance.{succeeding, outdated_by}
 use Rattle.apex_world.specs.Lawful.{Lawful}
 use Rattle.apex_world.specs.Rows.{undoes, may_happen, has_snapshot, has_pre_restore}
 use Rattle.apex_world.specs.Rows.{snapshot_row, pre_restore_row}
@@ -23,7 +23,7 @@ use Rattle.apex_world.specs.RowsMoved.{outdates}
 use Rattle.apex_world.specs.World.{World}
 use Rattle.apex_world.proofs.AlikeAfter.{IsLike}
 use Rattle.apex_world.proofs.SessionMaps.{put_for}
-use Rattle.apex_world.proofs.SucceededSessions.{not_outdated, as_map, ids, either, like, now_is, other_state}
+use Rattle.apex_world.proofs.SucceededSessions.{not_outdated, ids, either, like, now_is, other_state}
 use Rattle.apex_world.proofs.SucceededSessions.{staged}
 use Rattle.apex_world.proofs.TurnedLists.{by_answer, has_same, restores_same}
 use Rattle.apex_world.proofs.TurnedLists.{staged_same, may_same}
@@ -62,9 +62,6 @@ module _ (w : World) (law : Lawful w) (clock : ℕ) (r : Record) (h : In r w.ses
   abbrev ss : List Record
   ss = w.sessions
 
-  abbrev now : Record
-  now = succeeding clock r
-
   abbrev g : Record → Record
   g = put_for (succeeding clock r) (outdated_by r)
 
@@ -73,9 +70,6 @@ module _ (w : World) (law : Lawful w) (clock : ℕ) (r : Record) (h : In r w.ses
 
   abbrev world_of : List Record → World
   world_of zs = record w { sessions = zs; clock = clock; failures = w.failures }
-
-  is_map : after_success clock r ss ≡ after
-  is_map = as_map w law clock r h active
 
   likes : (x : Record) → In x ss → IsLike x (g x)
   likes = like w law clock r h active

@@ -30,7 +30,6 @@ use Rattle.apex_world.specs.World.{World}
 use Rattle.apex_world.proofs.AlikeAfter.{IsLike, names_same}
 use Rattle.apex_world.proofs.CallsSettle.{success_no_more}
 use Rattle.apex_world.proofs.FreedRows.{freed_row}
-use Rattle.apex_world.proofs.KeptLemmas.{unfinished_as}
 use Rattle.apex_world.proofs.SessionMaps.{put_for}
 use Rattle.apex_world.proofs.SettledRows.{KeepsNoMore, was_target}
 use Rattle.apex_world.proofs.SucceededSessions.{not_outdated, as_map, ids, either, like, now_is, other_state, standing}
@@ -39,6 +38,7 @@ use Rattle.apex_world.proofs.SuccessKept.{still_target}
 use Rattle.apex_world.proofs.SuccessPast.{is_outdated, snapshot_after, restore_after}
 use Rattle.apex_world.proofs.TurnedLists.{by_answer, active_same, backup_same, found_after}
 use Rattle.apex_world.proofs.WorldRows.{same_id}
+use Rattle.apex_world.proofs.StateFacts.{undoable_unfinished}
 
 find_none : {X : Type 0} (test : X → Bool) (xs : List X) (o : Option X) → find test xs ≡ o
     → ((x : X) → In x xs → test x ≡ true → ⊥) → o ≡ None
@@ -122,7 +122,7 @@ module _ (w : World) (law : Lawful w) (clock : ℕ) (r : Record) (h : In r w.ses
       elim (either w law clock r h active x j) [
         | inl (one, is) ↦ false≢true (ap is_undoable (sym (now_is w law clock r h active x is)) ∙ u)
         | inr (d, is) ↦ none_beside w law clock r h active x name j d (sym (names_same x (g x) name (likes x j)) ∙ n) m
-            (unfinished_as x.state (ap is_undoable (sym (other_state w law clock r h active x is)) ∙ u))
+            (undoable_unfinished x.state (ap is_undoable (sym (other_state w law clock r h active x is)) ∙ u))
       ]
 
   backup_after : (name : List ℕ) → backup_of after name ≡ cond (names name r) None (backup_of ss name)

@@ -20,16 +20,19 @@ use Rattle.apex_world.specs.Lawful.{AllPeers, NotBothAvailable}
 use Rattle.apex_world.specs.Running.{Running, is_activated}
 use Rattle.apex_world.specs.World.{World}
 use Rattle.apex_world.proofs.MoveStates.{IsMove, no_move}
-use Rattle.apex_world.proofs.MovedSessions.{turn_from, turn_put, rollback_as, moved_kept}
+use Rattle.apex_world.proofs.MovedSessions.{turn_from, turn_put, rollback_as}
 use Rattle.apex_world.proofs.OpenedSessions.{one_session}
 use Rattle.apex_world.proofs.SessionMaps.{put_for, same_put, with_as_map}
 use Rattle.apex_world.proofs.RunningLemmas.{with_watches}
 use Rattle.apex_world.proofs.TurnedLemmas.{peers_from}
 use Rattle.apex_world.proofs.TurnedRuns.{turned_running}
 use Rattle.apex_world.proofs.TurnedSessions.{Turns}
-use Rattle.apex_world.proofs.OutdatedRollbacks.{is_succeeding, longer_some, longer_enabling, longer_available}
-use Rattle.apex_world.proofs.OutdatedRollbacks.{longer_committed, enabling_some, outdated_id, outdated_available}
+use Rattle.apex_world.proofs.OutdatedRollbacks.{is_succeeding, longer_enabling, longer_available}
+use Rattle.apex_world.proofs.OutdatedRollbacks.{enabling_some, outdated_id, outdated_available}
 use Rattle.apex_world.proofs.OutdatedRollbacks.{succeeding_id, sharing}
+use Rattle.apex_world.proofs.LeadsLemmas.{changed}
+use Rattle.apex_world.proofs.StateFacts.{success_from}
+use Rattle.apex_world.proofs.RollbackStates.{settles_no_longer}
 
 module _ (w : World) (run : Running w) (clock : ℕ) (later : w.clock ≤ clock) (millis : IsMillis clock) (x : Record)
     (h : In x w.sessions) (active : x.state ≡ state.Activated) where
@@ -37,17 +40,17 @@ module _ (w : World) (run : Running w) (clock : ℕ) (later : w.clock ≤ clock)
   outdated_turn : (b : Bool) (r : Record) → In r w.sessions
       → Turns r (cond b (record r { rollback = no_longer r.rollback }) r)
   outdated_turn false r i =
-      turn_from w run.lawful r r i (moved_kept r r.state r.rollback) refl refl (run.lawful.ranges.sessions r i).moment
+      turn_from w run.lawful r r i (changed r) refl refl (run.lawful.ranges.sessions r i).moment
       (no_move r.state) (run.lawful.rollbacks.each r i) refl (λ e. inr e)
   outdated_turn true r i =
       let s : Record = record r { rollback = no_longer r.rollback } in
       let none : is_available s.rollback ≡ true → ⊥ = λ e. false≢true (sym (longer_available r.rollback) ∙ e) in
-      turn_from w run.lawful r s i (moved_kept r r.state (no_longer r.rollback)) refl refl
+      turn_from w run.lawful r s i (changed r) refl refl
       (run.lawful.ranges.sessions r i).moment (no_move r.state)
-      (rollback_as r s (run.lawful.rollbacks.each r i) refl refl (longer_some r.rollback)
-      (λ e. (sym (longer_enabling r.rollback) ∙ e, λ u. u)) (λ e. absurd (none e)) (longer_committed r.rollback)
+      (rollback_as r s (run.lawful.rollbacks.each r i) refl refl (settles_no_longer r.rollback).some
+      (λ e. (sym (longer_enabling r.rollback) ∙ e, λ u. u)) (λ e. absurd (none e)) (settles_no_longer r.rollback).committed
       (λ e. e))
-      (longer_committed r.rollback) (λ e. absurd (none e))
+      (settles_no_longer r.rollback).committed (λ e. absurd (none e))
 
   -- the session that succeeds is activated
   is_now : is_activated x.state ≡ true
@@ -63,7 +66,7 @@ module _ (w : World) (run : Running w) (clock : ℕ) (later : w.clock ≤ clock)
       (record x { state = state.Success }))
   succeeding_turn false e =
       let s : Record = record x { state = state.Success } in
-      turn_from w run.lawful x s h (moved_kept x state.Success x.rollback) refl refl
+      turn_from w run.lawful x s h (changed x) refl refl
       (run.lawful.ranges.sessions x h).moment move
       (rollback_as x s (run.lawful.rollbacks.each x h) refl refl refl (λ f. absurd (false≢true (sym e ∙ f))) (λ f. f)
       refl
@@ -71,7 +74,7 @@ module _ (w : World) (run : Running w) (clock : ℕ) (later : w.clock ≤ clock)
   succeeding_turn true e =
       let (some, not_yet) = enabling_some x.rollback e in
       let s : Record = record x { state = state.Success; rollback = Some Available; moment = clock } in
-      turn_from w run.lawful x s h (record { id = refl; children = refl; kind = refl; parts = refl; print = refl }) refl
+      turn_from w run.lawful x s h (changed x) refl
       refl millis move (record {
         kind = sym some ∙ (run.lawful.rollbacks.each x h).kind;
         enabling = λ f. absurd (false≢true f);
@@ -147,17 +150,6 @@ module _ (w : World) (run : Running w) (clock : ℕ) (later : w.clock ≤ clock)
       (turned_running w run g ids turns apart clock later millis)
 
 -- The call
-
--- only an activated session succeeds anew
-success_from : (s t : State) → moved s step_of.Success ≡ Some t → is_success s ≡ false → s ≡ state.Activated
-success_from state.Verified t e f = absurd (cc)
-success_from state.Staged t e f = absurd (cc)
-success_from state.Activated t e f = refl
-success_from state.ActivationFailed t e f = absurd (cc)
-success_from state.Success t e f = absurd (cc)
-success_from state.RevertInProgress t e f = absurd (cc)
-success_from state.Reverted t e f = absurd (cc)
-success_from state.Aborted t e f = absurd (cc)
 
 -- a running world at a later moment
 pub later_running : (w : World) → Running w → (clock : ℕ) → w.clock ≤ clock → IsMillis clock

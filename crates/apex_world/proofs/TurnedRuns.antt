@@ -22,7 +22,7 @@ use Rattle.apex_world.specs.Running.{Running, runs, is_activated, is_of_image}
 use Rattle.apex_world.specs.Submit.{in_running}
 use Rattle.apex_world.specs.World.{World}
 use Rattle.apex_world.proofs.NameCounts.{names_within}
-use Rattle.apex_world.proofs.RunningLemmas.{image_of}
+use Rattle.apex_world.proofs.RunningLemmas.{ranges_with, image_of}
 use Rattle.apex_world.proofs.SessionMaps.{sum_map_most}
 use Rattle.apex_world.proofs.KeptWeights.{weight_less}
 use Rattle.apex_world.proofs.TurnedLemmas.{from, peers_from, same_names, ascend, same_place, ids_after}
@@ -118,21 +118,9 @@ module _ (w : World) (run : Running w) (g : Record → Record) (same : (r : Reco
   -- the world is lawful
   turned_lawful : Lawful world
   turned_lawful = record {
-    ranges = record {
-      sessions = each_has IsRecord (λ r h.
-          let t = turn r h in
-          record_as r (g r) t.kept t.cause t.activation t.moment (law.ranges.sessions r h));
-      modules = law.ranges.modules;
-      contents = law.ranges.contents;
-      eras = law.ranges.eras;
-      moments = law.ranges.moments;
-      watches = law.ranges.watches;
-      ends = law.ranges.ends;
-      boots = law.ranges.boots;
-      clock = millis;
-      image = law.ranges.image;
-      observers = law.ranges.observers;
-    };
+    ranges = ranges_with w law.ranges after w.modules clock (each_has IsRecord (λ r h.
+        let t = turn r h in record_as r (g r) t.kept t.cause t.activation t.moment (law.ranges.sessions r h)))
+        law.ranges.modules millis;
     ids = ids_after w law g same turn;
     parts = parts_after;
     alone = peers_from w law g same turn NotBothUnfinished (λ r s name h i d n m a b.

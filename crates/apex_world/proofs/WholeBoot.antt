@@ -34,11 +34,12 @@ use Rattle.apex_world.specs.Wholeness.{IsActiveFrom, IsOnData, IsWhole}
 use Rattle.apex_world.specs.World.{World, boots}
 use Rattle.apex_world.proofs.BootSessions.{become_keeps, part_works}
 use Rattle.apex_world.proofs.BootTurns.{Turns, Rests, Activates, Remains, Fails, Reverts, turns, activated_works}
-use Rattle.apex_world.proofs.BootTurns.{undoable_unfinished, success_states, undoable_turned}
+use Rattle.apex_world.proofs.BootTurns.{success_states, undoable_turned}
 use Rattle.apex_world.proofs.ChosenLemmas.{chosen_in, chosen_back, chosen_from, choice_works, choice_data}
 use Rattle.apex_base.proofs.Finding.{found}
 use Rattle.apex_world.proofs.LatestLemmas.{IsLatest, named_by, names_part, latest_is}
 use Rattle.apex_world.proofs.RollbackIds.{only_one}
+use Rattle.apex_world.proofs.StateFacts.{undoable_unfinished}
 
 -- Parts
 

@@ -60,6 +60,7 @@ use Rattle.apex_world.proofs.Lasting.{lasts, Lasts, commit_lasts}
 use Rattle.apex_world.proofs.RollbackIds.{Undone, Carries, AreAvailable, undone_map, undone_with, undone_new}
 use Rattle.apex_world.proofs.RollbackIds.{undone_commit, trigger_undone, available_last, eligible_available}
 use Rattle.apex_world.proofs.RollbackIds.{named_available, clear_available, available_small}
+use Rattle.apex_world.proofs.StateFacts.{success_from}
 
 -- How sessions go on
 
@@ -416,16 +417,6 @@ succeeds_if clock r false e f = record {
   some = λ g. g;
   committed = λ g. g;
 }
-
-success_from : (s t : State) → moved s step_of.Success ≡ Some t → is_success s ≡ false → s ≡ state.Activated
-success_from state.Verified t e f = absurd (cc)
-success_from state.Staged t e f = absurd (cc)
-success_from state.Activated t e f = refl
-success_from state.ActivationFailed t e f = absurd (cc)
-success_from state.Success t e f = absurd (cc)
-success_from state.RevertInProgress t e f = absurd (cc)
-success_from state.Reverted t e f = absurd (cc)
-success_from state.Aborted t e f = absurd (cc)
 
 -- Revert
 

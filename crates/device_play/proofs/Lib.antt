@@ -6,6 +6,7 @@ pub mod Ordered
 pub mod Places
 pub mod Plans
 pub mod PlayedLemmas
+pub mod PreparedCalls
 pub mod Runs
 pub mod Sources
 pub mod Statuses

@@ -1,8 +1,10 @@
 //! A device: boots and calls happen to it, and from one boot to the next nothing but its rows is kept.
-ghost use Rattle.std.specs.Prelude.{◌≡◌, [], IfOk, OnOk, OnErr, IsTrue};
+ghost use Rattle.std.specs.Prelude.{◌≡◌, [], IfOk, IsSomeAnd, OnOk, OnErr, IsTrue};
+ghost use Rattle.std.specs.Option.{ForSome};
 ghost use Rattle.apex_base.specs.Ranges.{IsMillis};
 ghost use Rattle.apex_base.specs.Text.{is_print};
 ghost use Rattle.apex_core.specs.Core.{IsStored};
+ghost use Rattle.apex_core.specs.Prepared.{IfAnswered, IfNoMemory};
 ghost use Rattle.apex_world.specs.Boot.{boot_reply, boot_world};
 ghost use Rattle.apex_world.specs.Calls.{call_at};
 ghost use Rattle.apex_world.specs.Playable.{IsBuilt};
@@ -11,9 +13,10 @@ ghost use Rattle.apex_world.specs.World.{World, empty_world};
 ghost use Rattle.device_play.specs.Device.{IsDeviceOf, IsOn};
 ghost use Rattle.device_play.specs.Events.{CanBoot};
 
+use crate::calls::prepared;
 use apex_base::{Mounter, Scale};
-use apex_core::Core;
-use apex_world::{BootOrder, BootReply, CallRef, Reply};
+use apex_core::{Answer, Core, Prepared};
+use apex_world::{BootOrder, BootReply, CallRef, Reply, TurnRow};
 use row_map::Rows;
 use std::alloc::{AllocError, Global};
 use std::mem;
@@ -65,8 +68,14 @@ impl Device {
         Ok(reply)
     }
 
-    /// A call happens to a device that is on. After an error it may be of the worlds that it was of before.
-    pub fn act(&mut self, alloc: Global, call: &CallRef) -> Result<Reply, AllocError>
+    /// A call of a script is prepared, and happens to a device that is on, as the turn of this row. After an error the
+    /// device may be of the worlds that it was of before.
+    pub fn call(
+        &mut self,
+        alloc: Global,
+        row: &TurnRow,
+        call: &CallRef,
+    ) -> Result<Reply, AllocError>
         requires on { IsOn self.old }
         requires built { IsBuilt (call_at call.now) }
         ensures reply { (w : World) → IsDeviceOf self.old w
@@ -76,9 +85,27 @@ impl Device {
         ensures stays { (w : World) → IsDeviceOf self.old w → OnErr result (IsDeviceOf self.new w) }
         ensures on { IsOn self.new }
     {
+        match self.act(alloc, row, prepared(alloc, call)) {
+            Answer::Answered(reply) => Ok(reply),
+            Answer::NoMemory { .. } => Err(AllocError),
+        }
+    }
+
+    /// A call happens to a device that is on, as the turn of this row. Where memory runs out, it may be of the worlds that
+    /// it was of before.
+    pub fn act(&mut self, alloc: Global, row: &TurnRow, call: Prepared) -> Answer
+        requires on { IsOn self.old }
+        requires built { ForSome call IsBuilt }
+        ensures reply { (w : World) → IsDeviceOf self.old w
+            → IfAnswered result (λ reply. IsSomeAnd call (λ c. reply ≡ (step w c).reply)) }
+        ensures leads { (w : World) → IsDeviceOf self.old w
+            → IfAnswered result (λ _. IsSomeAnd call (λ c. IsDeviceOf self.new (step w c).world)) }
+        ensures stays { (w : World) → IsDeviceOf self.old w → IfNoMemory result (λ _. IsDeviceOf self.new w) }
+        ensures on { IsOn self.new }
+    {
         match self {
             Device::Off(_) => unreachable!(),
-            Device::On(core) => core.act(alloc, call),
+            Device::On(core) => core.act(alloc, row.lane, row.step, call),
         }
     }
 }

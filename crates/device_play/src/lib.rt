@@ -1,6 +1,7 @@
 //! The top call: a script is played, and its text is written.
 #![tactic(auto)]
 
+mod calls;
 mod device;
 mod laws;
 mod mounts;

@@ -62,7 +62,7 @@ impl Run {
         ensures on { OnOk result (IsOn self.new.device) }
     {
         self.turns.reserve(1)?;
-        let reply = self.device.act(alloc, call)?;
+        let reply = self.device.call(alloc, &row, call)?;
         self.enter_turn(row);
         Ok(reply)
     }

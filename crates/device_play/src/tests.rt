@@ -1,8 +1,12 @@
 //! What no clause says of a run: that ample memory is enough, and what a source and a sink that fail leave. Scripts with
 //! their texts are worked scripts of the crate `worked_scripts`.
+use crate::device::Device;
+use crate::run::Run;
 use crate::{Fate, Played, Status, TurnRow, apex_play};
-use apex_base::{MemSink, MemSource, OpenGate};
-use device_script::LineFault;
+use apex_base::{Listed, MemSink, MemSource, Name, OpenGate, SessionId, Version};
+use apex_core::prepare;
+use apex_world::{Call, SharedModule};
+use device_script::{LineFault, read_script};
 use std::alloc::Global;
 use std::test::Fail;
 
@@ -98,5 +102,42 @@ fn a_sink_that_fails_keeps_a_front_of_the_text(rt: HostRuntime) -> Result<(), Fa
     }
     let (played, _) = play(rt.alloc(), "play", UPDATE, 0, 14)?;
     assert_eq!(rt; played.status, Status::Done);
+    Ok(())
+}
+
+const TIE: &str =
+    "scale small\nimage P\npre a@5\nboot 0 1\nsubmit 1 plain a@5\nready 1\nboot 1 1\nsubmit 2 plain a@4\nsuccess 1 1\nsubmit 2 plain a@4\n";
+
+const TIE_TEXT: &str =
+    "1.0.0 boot 1\nactive a 5 pre\n1.0.1 ok\n1.0.2 ok\n2.0.0 boot 2\nsession 1 ACTIVATED\nactive a 5 data\n2.0.1 refused overlap a 1\n2.0.2 ok\n2.0.3 refused downgrade a 5 4\nend 7\n";
+
+#[test]
+fn a_core_leaves_the_row_of_what_a_name_holds(rt: HostRuntime) -> Result<(), Fail> {
+    let script = read_script(rt.alloc(), TIE.as_bytes()).or(Err("a script"))?;
+    let mut sink = MemSink::with_room(rt.alloc(), 4096, one(rt.alloc(), 0)?)?;
+    let mut run = Run::start(rt.alloc());
+    run.play_script(rt.alloc(), &mut sink, &script).or(Err("a run to its end"))?;
+    assert_eq!(rt; sink.bytes(), TIE_TEXT.as_bytes());
+    let Device::On(core) = run.device else {
+        return Err("a device that is on".into());
+    };
+    // The module that session 1 submitted as part 0, version 5.
+    let target = [1, 0, 0, 0, 1, 0, 0, 0, 0, 0, 0, 0, 0, 5].as_slice();
+    assert_eq!(rt; core.into_rows().get(&[3, b'a']), Some(target));
+    Ok(())
+}
+
+#[test]
+fn calls_are_prepared_where_there_is_memory(rt: HostRuntime) -> Result<(), Fail> {
+    let name = Name::read(b"a").ok_or("a name")?;
+    let version = Version::new(2).ok_or("a version")?;
+    let submit = Call::Submit {
+        id: SessionId(1),
+        children: Listed::new(rt.alloc()),
+        rollback: false,
+        parts: Listed::one(rt.alloc(), SharedModule::short(name, version))?,
+    };
+    assert!(rt; prepare(rt.alloc(), submit).into_call().is_some());
+    assert!(rt; prepare(rt.alloc(), Call::Revert).into_call().is_some());
     Ok(())
 }

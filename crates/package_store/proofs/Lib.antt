@@ -6,7 +6,7 @@ mod LatestParts
 mod Maps
 mod NameNotes
 mod Noted
-mod Parts
+pub mod Parts
 mod Placements
 mod RowNotes
 mod RowSteps

@@ -56,7 +56,7 @@ no_cond true = refl
 no_cond false = refl
 
 -- what follows the front of a session's key is dropped to
-drop_kept : (tag : ℕ) (id : SessionId) (name key : List ℕ)
+pub drop_kept : (tag : ℕ) (id : SessionId) (name key : List ℕ)
     → drop (length (kept_text tag id name [])) (kept_text tag id name key) ≡ key
 drop_kept tag id name key =
     let e : length (tag ∷ id_text id ++ length name ∷ name) ≡ length (kept_text tag id name []) =
@@ -87,7 +87,7 @@ module _ (m : RowMap) where
       ∙ or_cond (is_name key) (fin.get m (kept_text tag r.id name key)) (first_kept m tag (short_text name key) rs)
 
   -- what sessions keep of a name
-  kept_is : (rs : List Record) (name key : List ℕ)
+  pub kept_is : (rs : List Record) (name key : List ℕ)
       → fin.get (kept_of m rs name) key ≡ cond (is_name key) (kept_by m (short_text name key) rs) None
   kept_is rs name key =
       get-from_entries nat_list_cmp_total (all_kept 7 name rs ++ all_kept 8 name rs) key
@@ -104,10 +104,10 @@ module _ (m : RowMap) where
   some_session (r ∷ rs) name d = (r, inl refl)
 
   module _ (ss : List Record) where
-    abbrev all_names : ℕ → List (List ℕ)
+    abbrev pub all_names : ℕ → List (List ℕ)
     all_names n = flat_map (λ r. map (λ p. p.name) r.parts) (activated_at n ss)
 
-    name_sought : (n : ℕ) (name : List ℕ) → fin.len (kept_of m (counting ss n name) name) ≢ 0 → In name (all_names n)
+    pub name_sought : (n : ℕ) (name : List ℕ) → fin.len (kept_of m (counting ss n name) name) ≢ 0 → In name (all_names n)
     name_sought n name d =
         let (r, h) = some_session (counting ss n name) name d in
         let (i, t) = in_filter (names name) r (activated_at n ss) h in
@@ -116,10 +116,10 @@ module _ (m : RowMap) where
         (subst (λ (x : List ℕ). In x (map (λ (p : Part). p.name) r.parts)) (same_name p.name name s)
         (in_map (λ (p : Part). p.name) p r.parts j))
 
-    abbrev opened_at : ℕ → Contents
+    abbrev pub opened_at : ℕ → Contents
     opened_at n = era_of m (activated_at n ss)
 
-    at_boot : (n : ℕ) (name key : List ℕ) → value_of (opened_at n) name key
+    pub at_boot : (n : ℕ) (name key : List ℕ) → value_of (opened_at n) name key
         ≡ cond (is_name key) (kept_by m (short_text name key) (counting ss n name)) None
     at_boot n name key =
         ap (λ (t : NameMap (List ℕ)). fin.get t key)

@@ -25,7 +25,7 @@ below_less {X} k (x ∷ es) e b (inl same) = ap (λ (y : List ℕ × X). slice_c
 below_less k (x ∷ es) e b (inr h) = below_less k es e (and_parts _ _ b).1 h
 
 -- the first elements decide, or the rest where they are the same
-first_less : (x y : ℕ) (o : Ordering) → ordering_then (nat_cmp x y) o ≡ Less → (x < y) ⊎ ((x ≡ y) × (o ≡ Less))
+pub first_less : (x y : ℕ) (o : Ordering) → ordering_then (nat_cmp x y) o ≡ Less → (x < y) ⊎ ((x ≡ y) × (o ≡ Less))
 first_less x y o e =
     elim (cases_order x y) [
       | inl same ↦ inr (same, rw (le-ltb x y (omega (arith, same)), eq-eqb x y same) at e)

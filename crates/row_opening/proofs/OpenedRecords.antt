@@ -1,27 +1,23 @@
 -- The session of an id, among those that rows open to, is what its row spells. Callers want `session_in`,
 -- `sessions_ascend`, `is_record_in` and `session_id`.
 use Rattle.std.proofs.Common.{◌≡◌, ℕ, ◌<◌, ◌^◌, ltb, List, [], ◌∷◌, Option, Some, None, sym, ap, subst, ◌∙◌, refl}
-use Rattle.std.proofs.Common.{inl}
-use Rattle.std.proofs.Common.{inr, drop}
-use Rattle.std.specs.Prelude.{fold, option_and_then, IfSome}
-use Rattle.std.specs.Int.{w32, from_be_bytes}
+use Rattle.std.specs.Prelude.{option_and_then, IfSome}
+use Rattle.std.specs.Int.{w32}
 use Rattle.std.specs.FinMap as fin
-use Rattle.std.proofs.lemmas.Bool.{ltb-true, cases_eq}
-use Rattle.std.proofs.lemmas.Nat.{from_be_bytes-to_be_bytes_4}
+use Rattle.std.proofs.lemmas.Bool.{ltb-true}
 use Rattle.apex_base.specs.declared.numbers.SessionId.{SessionId}
 use Rattle.apex_base.specs.declared.records.Record.{Record}
 use Rattle.apex_base.specs.Keys.{RecordOf, key_text, RowMap}
 use Rattle.apex_base.specs.Members.{In}
 use Rattle.apex_base.specs.Reading.{◌>>=◌, at_end, byte_at, number_at}
-use Rattle.apex_base.specs.Sessions.{session_of, with_session, Ascend}
+use Rattle.apex_base.specs.Sessions.{session_of, Ascend}
 use Rattle.apex_base.specs.Spelling.{record_of, state_at, kind_at, rollback_at, moment_at, print_at, cause_at}
 use Rattle.apex_base.specs.Spelling.{parts_at, children_of}
 use Rattle.apex_base.proofs.Finding.{some_if, some_then}
-use Rattle.apex_base.proofs.MemberLemmas.{in_map}
-use Rattle.apex_base.proofs.RowMaps.{in_ends}
-use Rattle.apex_base.proofs.SessionLemmas.{ascend_with, with_self, with_others, with_any, of_found, of_in}
-use Rattle.apex_world.specs.Opened.{record_in, with_some, ids_in, opened_sessions}
+use Rattle.apex_base.proofs.SessionLemmas.{of_found, of_in}
+use Rattle.apex_world.specs.Opened.{record_in, opened_sessions}
 use Rattle.apex_world.proofs.WorldRows.{same_id}
+use Rattle.apex_world.proofs.PlacedSessions.{in_ids, opened_ascend, opened_known, opened_there}
 
 -- What is read has the id that it is read for
 
@@ -70,70 +66,12 @@ module _ (m : RowMap) where
   one_own : (r s : Record) → Own r → Own s → r.id.0 ≡ s.id.0 → r ≡ s
   one_own r s a b e = let same : Some r ≡ Some s = sym a ∙ ap (record_in m) (same_id r.id s.id e) ∙ b in cc same
 
-  abbrev next : List Record → SessionId → List Record
-  next ss id = with_some (record_in m id) ss
-
-  ascend_some : (o : Option Record) (ss : List Record) → Ascend ss → Ascend (with_some o ss)
-  ascend_some None ss h = h
-  ascend_some (Some r) ss h = ascend_with r ss h
-
-  ascends : (ids : List SessionId) (ss : List Record) → Ascend ss → Ascend (fold next ss ids)
-  ascends [] ss h = h
-  ascends (id ∷ ids) ss h = ascends ids (next ss id) (ascend_some (record_in m id) ss h)
-
-  back_some : (o : Option Record) (ss : List Record) (r : Record) → ((s : Record) → o ≡ Some s → Own s)
-      → ((s : Record) → In s ss → Own s) → In r (with_some o ss) → Own r
-  back_some None ss r new old i = old r i
-  back_some (Some s) ss r new old i =
-      elim (with_any s ss r i) [
-        | inl e ↦ subst Own (sym e) (new s refl)
-        | inr j ↦ old r j
-      ]
-
-  backs : (ids : List SessionId) (ss : List Record) (r : Record) → ((s : Record) → In s ss → Own s)
-      → In r (fold next ss ids) → Own r
-  backs [] ss r old i = old r i
-  backs (id ∷ ids) ss r old i = backs ids (next ss id) r
-      (λ s j. back_some (record_in m id) ss s (λ t e. own id t e) old j) i
-
-  stays_some : (o : Option Record) (ss : List Record) (r : Record) → ((s : Record) → o ≡ Some s → Own s) → Own r
-      → In r ss → In r (with_some o ss)
-  stays_some None ss r new h i = i
-  stays_some (Some s) ss r new h i =
-      elim (cases_eq r.id.0 s.id.0) [
-        | inl e ↦ subst (λ (x : Record). In x (with_session s ss)) (sym (one_own r s h (new s refl) e))
-            (with_self s ss)
-        | inr d ↦ with_others s ss r i d
-      ]
-
-  stays : (ids : List SessionId) (ss : List Record) (r : Record) → Own r → In r ss → In r (fold next ss ids)
-  stays [] ss r h i = i
-  stays (id ∷ ids) ss r h i = stays ids (next ss id) r h
-      (stays_some (record_in m id) ss r (λ s e. own id s e) h i)
-
-  comes : (ids : List SessionId) (ss : List Record) (id : SessionId) (r : Record) → In id ids
-      → record_in m id ≡ Some r → In r (fold next ss ids)
-  comes [] ss id r h e = absurd h
-  comes (x ∷ ids) ss id r (inl same) e =
-      let at_x : record_in m x ≡ Some r = ap (record_in m) same ∙ e in
-      stays ids (next ss x) r (own x r at_x) (subst (λ (o : Option Record). In r (with_some o ss)) (sym at_x)
-      (with_self r ss))
-  comes (x ∷ ids) ss id r (inr h) e = comes ids (next ss x) id r h e
-
-  sought : (id : SessionId) (bytes : List ℕ) → id.0 < 2 ^ 32 → fin.get m (key_text (RecordOf id)) ≡ Some bytes
-      → In id (ids_in m)
-  sought id bytes l e =
-      subst (λ (id : SessionId). In id (ids_in m))
-      (ap (λ (n : ℕ). record { 0 = n }) (from_be_bytes-to_be_bytes_4 id.0 l))
-      (in_map (λ (bytes : List ℕ). record { 0 = from_be_bytes w32 bytes })
-      (drop 1 (key_text (RecordOf id))) _ (in_ends 1 m (key_text (RecordOf id)) bytes e))
-
   -- they ascend, and each is what its own row spells
   pub sessions_ascend : Ascend (opened_sessions m)
-  sessions_ascend = ascends (ids_in m) [] tt
+  sessions_ascend = opened_ascend m
 
   pub session_row : (r : Record) → In r (opened_sessions m) → record_in m r.id ≡ Some r
-  session_row r h = backs (ids_in m) [] r (λ s i. absurd i) h
+  session_row r h = opened_known m Own one_own own r h
 
   pub session_id : (r : Record) → In r (opened_sessions m) → r.id.0 < 2 ^ 32
   session_id r h = (is_record_in r.id r (session_row r h)).0
@@ -141,7 +79,7 @@ module _ (m : RowMap) where
   pub session_there : (id : SessionId) (r : Record) → record_in m id ≡ Some r → In r (opened_sessions m)
   session_there id r e =
       let (l, same, bytes, f, g) = is_record_in id r e in
-      comes (ids_in m) [] id r (sought id bytes l f) e
+      opened_there m Own one_own own id r (in_ids m id bytes l f) e
 
   session_if : (id : SessionId) (o p : Option Record) → session_of (opened_sessions m) id ≡ o → record_in m id ≡ p
       → o ≡ p

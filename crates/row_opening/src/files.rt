@@ -8,7 +8,7 @@ ghost use Rattle.row_opening.specs.FileKeys.{is_file_key, is_file_at, are_files}
 ghost use Rattle.row_opening.specs.RightRows.{has_own};
 ghost use Rattle.row_opening.specs.RowBytes.{FitRow, FitRows};
 
-use apex_base::{FilePath, Part, Record, SessionId, Target, session_of};
+use apex_base::{FilePath, Part, Record, SessionId, is_module, session_of};
 use row_map::Rows;
 
 /// The tag of the rows of files.
@@ -71,18 +71,5 @@ fn has_own(sessions: &[Record], id: SessionId, part: u32) -> bool
 fn is_own(parts: &[Part], id: SessionId, part: u32) -> bool
     ensures { result ≡ list_any (λ p. is_module id part p.target) parts.now }
 {
-    parts.iter().any(|p| is_module(p.target, id, part))
-}
-
-fn is_module(target: Target, session: SessionId, part: u32) -> bool
-    ensures { result ≡ is_module session part target }
-{
-    match target {
-        Target::Preinstalled => false,
-        Target::Module {
-            session: s,
-            part: p,
-            version: _,
-        } => s.0 == session.0 && p == part,
-    }
+    parts.iter().any(|p| is_module(id, part, p.target))
 }

@@ -153,8 +153,9 @@ fn version_of_number(number: u64) -> Option<Option<Version>>
     Some(Some(version))
 }
 
+/// A target and what follows it, or None where the bytes begin with none. It takes no memory.
 #[tactic(auto, unfolding(apex_base::specs::Spelling::target_at))]
-fn target_at(bytes: &[u8]) -> Option<(Target, &[u8])>
+pub fn target_at(bytes: &[u8]) -> Option<(Target, &[u8])>
     ensures { option_map (λ found. (found.0, found.1.now)) result ≡ target_at bytes.now }
 {
     match bytes {

@@ -16,5 +16,6 @@ mod writing;
 pub use apex_base::{Move, Record, State, moved};
 pub use decode::decode_record;
 pub use encode::encode_record;
+pub use fields::target_at;
 pub use laws::spelling_undoes_reading;
 pub use reading::{byte_at, moment_at, short_at, u32_at, u64_at};

@@ -1,13 +1,10 @@
 -- Candidates have one list of picks.
-use Rattle.std.proofs.Common.{T, ◌≡◌, ◌≢◌, ℕ, ◌≤◌, Bool, true, false, IsTrue, List, [], ◌∷◌, map, Option, Some, None, refl, sym, ap, subst, ◌∙◌, inl, inr, arith}
+use Rattle.std.proofs.Common.{T, ◌≡◌, ◌≢◌, ℕ, ◌≤◌, true, false, List, [], ◌∷◌, map, Option, Some, None, refl, sym, ap, subst, ◌∙◌, inl, inr, arith}
 use Rattle.std.specs.Prelude.{IsSome}
-use Rattle.std.specs.declared.cmp.Ordering.TheVariants.{Less}
 use Rattle.std.specs.Cmp.Lexicographic.{slice_cmp, nat_list_cmp_total}
 use Rattle.std.specs.FinMap as fin
 use Rattle.std.specs.FinMap.{is_sorted, slice_cmp-IsAntisymmetric, nat_cmp-IsAntisymmetric}
-use Rattle.std.specs.FinMap.Entries.{below_all, same_entries}
-use Rattle.std.specs.List.{AllByRecursion}
-use Rattle.std.specs.List.Sorted.{IsStrictlySortedBy}
+use Rattle.std.specs.FinMap.Entries.{same_entries}
 use Rattle.std.specs.Map.{keys_of, lookup}
 use Rattle.std.specs.Ordering.{eq_by_cmp, nat_cmp}
 use Rattle.std.proofs.lemmas.Bool.{cases_lt}
@@ -21,6 +18,7 @@ use Rattle.version_select.specs.declared.candidate.Candidate.{Candidate}
 use Rattle.version_select.specs.Kept.{Entries, kept_at, IsKept, KeepsChoices, pick_of}
 use Rattle.version_select.specs.Selecting.{offered, IsBetter, NoneUsable, IsChoice, names_of, ArePicks}
 use Rattle.version_select.proofs.KeptLemmas.{same_name}
+use Rattle.apex_base.proofs.Maps.{sorted, is_T}
 
 -- Choices
 
@@ -111,21 +109,6 @@ find_lookup : (q : List ℕ) (es : Entries)
     → lookup (eq_by_cmp (slice_cmp nat_cmp) q) es ≡ fin.find (slice_cmp nat_cmp) q es
 find_lookup q [] = refl
 find_lookup q (e ∷ es) = rw (find_lookup q es) refl
-
-below : (name : List ℕ) (es : Entries) → AllByRecursion (λ q. slice_cmp nat_cmp name q ≡ Less) (keys_of es)
-    → IsTrue (below_all (slice_cmp nat_cmp) name es)
-below name [] all = refl
-below name (e ∷ es) all = rw all.0 (below name es all.1)
-
-sorted : (es : Entries) → IsStrictlySortedBy (slice_cmp nat_cmp) (keys_of es)
-    → IsTrue (is_sorted (slice_cmp nat_cmp) es)
-unfolding IsStrictlySortedBy
-sorted [] s = refl
-sorted (e ∷ es) s = rw (below e.0 es s.0) (sorted es s.1)
-
-is_T : (b : Bool) → IsTrue b → T b
-is_T true e = tt
-is_T false e = absurd (cc)
 
 ordered : (candidates : List Candidate) (ps : List Pick) → ArePicks candidates ps
     → T (is_sorted (slice_cmp nat_cmp) (entries_of ps))

@@ -1,6 +1,14 @@
+mod BootCounts
+mod BootNames
 mod Counting
+mod DataDecided
+mod Differing
+mod EraRows
 mod FilesWalked
 mod FitTexts
+mod FrontForms
+mod FrontWeights
+mod KeyForms
 mod ModulesDecided
 mod ModulesTaken
 mod OpenedParts
@@ -9,5 +17,9 @@ mod OpenedTableRanges
 mod Owners
 mod ReadTexts
 mod Refusing
+mod RowRuns
+mod RunSteps
+mod RunSums
 mod SmallParts
+mod WatchCounts
 mod WholeWorlds

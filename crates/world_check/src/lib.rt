@@ -4,6 +4,7 @@
 mod check;
 mod counts;
 mod data;
+mod fronts;
 mod modules;
 #[cfg(test)]
 mod modules_tests;

@@ -10,7 +10,6 @@ use Rattle.row_codec.specs.Batch.{keys_of}
 use Rattle.session_record.specs.Room.{HasPartNumber}
 use Rattle.apex_world.specs.declared.calls.Call.TheVariants as calls
 use Rattle.apex_world.proofs.PlainLemmas.{success_plain}
-use Rattle.apex_core.specs.Ending.{held_before, success_batch}
 use Rattle.apex_core.proofs.Batches.{none_ascend}
 use Rattle.apex_core.proofs.Moved.{read_is, moved_from, refused_is}
 use Rattle.apex_core.proofs.SuccessBatches.{success_ascends}
@@ -43,9 +42,11 @@ success_rows-requires-clause-numbered c =
     let (w, s) = c.requires.stands in
     let read = read_is c.args.tables.now.sessions.items c.args.id step_of.Success c.in-Ok.to.0 c.in-Ok.to.1 m r
     c.index-r.ensures in
-    subst (λ ss. HasPartNumber (held_before ss c.in_ok-session.session)) (sym c.deref.ensures.value)
-    (held_numbered c.args.rows.now c.args.tables.now w s c.args.id c.in-Ok.to.0 c.in-Ok.to.1 m
-    c.in_ok-session.session (moved_from r m.session c.in_ok-session.session c.in-Ok.to.1 read c.in_ok-session.ensures))
+    let tells : is_success m.session.state ≡ c.is_success.result =
+    ap (λ (x : Record). is_success x.state) (sym read) ∙ sym c.is_success.ensures in
+    held_numbered c.args.rows.now c.args.tables.now w s c.args.id c.in-Ok.to.0 c.in-Ok.to.1 m
+    c.in_ok-session.session (moved_from r m.session c.in_ok-session.session c.in-Ok.to.1 read c.in_ok-session.ensures)
+    (tells ∙ c.if-is_success.false)
 
 pub returns-clause-judged : goal.returns-clause-judged
 returns-clause-judged c w s =
@@ -67,8 +68,7 @@ returns-clause-judged c w s =
       | else-is_success+in_ok-batch b ↦ success_done c.args.rows.now c.args.tables.now w s c.args.id
           c.in-Ok.to.0 c.in-Ok.to.1 m session same c.args.time is_time (tells ∙ b.if-is_success.false) _
           c.later_of-clock.result refl
-          (ap (λ v. v.items) b.batch-is ∙ b.in_ok-batch.ensures.rows
-          ∙ ap (λ ss. success_batch c.args.rows.now ss session) b.deref.ensures.value)
+          (ap (λ v. v.items) b.batch-is ∙ b.in_ok-batch.ensures.rows)
           c.in_ok-patch.ensures c.later_of-clock.ensures.later
     ]
 
@@ -80,5 +80,5 @@ returns-clause-ascending c =
       | else-is_success+in_ok-batch b ↦ subst
           (λ (rows : List Row). IsStrictlySortedBy (slice_cmp nat_cmp) (keys_of rows))
           (sym (ap (λ v. v.items) b.batch-is ∙ b.in_ok-batch.ensures.rows))
-          (success_ascends c.args.rows.now b.deref.result.now c.in_ok-session.session)
+          (success_ascends c.args.rows.now c.in_ok-session.session)
     ]

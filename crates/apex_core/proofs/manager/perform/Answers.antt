@@ -1,5 +1,5 @@
 use Rattle.std.proofs.Common.{◌≡◌, ◌∙◌, refl}
-use Rattle.apex_world.specs.Calls.{call_at}
+use Rattle.apex_core.specs.Prepared.{call_of}
 use Rattle.row_map.specs.Rows.{changed}
 use Rattle.row_map.proofs.Rooms.{table_after}
 use Rattle.apex_core.proofs.Performed.{weighs, small_now, small_next, weighs_next, stands_next, stands_same, stands_quiet}
@@ -18,7 +18,7 @@ pub weight_after-weight-requires-clause-small_after : goal.weight_after-weight-r
 weight_after-weight-requires-clause-small_after c =
     let (w, s) = c.requires.stands in
     let judged = c.in_ok-judged.judged in
-    rw c.deref.ensures.value (small_next c.args.rows.now c.args.tables.now w s (call_at c.args.call.now) judged
+    rw c.deref.ensures.value (small_next c.args.rows.now c.args.tables.now w s (call_of c.args.call.now) judged
     (c.in_ok-judged.ensures.judged w s))
 
 pub returns-clause-stands : goal.returns-clause-stands
@@ -30,9 +30,9 @@ returns-clause-stands c w s =
     c.change_all.result c.deref-2.ensures.value c.in_ok-added.ensures.agrees c.in_ok-added.ensures.room
     (c.change_all.ensures.takes_none c.in_ok-judged.ensures.ascending) c.change_all.ensures.changed in
     let after = (rw c.deref.ensures.value at c.weight_after-weight.ensures)
-    ∙ weighs_next c.args.rows.now c.args.tables.now w s (call_at c.args.call.now) judged j in
+    ∙ weighs_next c.args.rows.now c.args.tables.now w s (call_of c.args.call.now) judged j in
     stands_next c.args.rows.now c.change_all.new.self c.make_room.new.tables c.apply.new.tables w
-    (call_at c.args.call.now) judged c.weight_after-weight.result
+    (call_of c.args.call.now) judged c.weight_after-weight.result
     (stands_same c.args.rows.now c.args.rows.now c.args.tables.now c.make_room.new.tables w s refl
     c.in_ok-make_room.ensures.same) j rows after c.apply.ensures
 
@@ -40,5 +40,10 @@ pub returns-then-changes_nothing-clause-stands : goal.returns-then-changes_nothi
 returns-then-changes_nothing-clause-stands c w s =
     let judged = c.in_ok-judged.judged in
     let (none, nothing) = c.if-changes_nothing.ensures refl in
-    stands_quiet c.args.rows.now c.args.tables.now w (call_at c.args.call.now) judged s
+    stands_quiet c.args.rows.now c.args.tables.now w (call_of c.args.call.now) judged s
     (c.in_ok-judged.ensures.judged w s) none nothing
+
+pub returns-in_err-added-clause-stays : goal.returns-in_err-added-clause-stays
+returns-in_err-added-clause-stays c w s =
+    stands_same c.args.rows.now c.make_room-2.new.self c.args.tables.now c.make_room.new.tables w s (search rules)
+    c.in_ok-make_room.ensures.same

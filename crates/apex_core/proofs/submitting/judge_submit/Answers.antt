@@ -30,7 +30,7 @@ returns-in-Some-clause-judged c w s =
     let q = c.quiet-in-Some in
     quiet_is kept tables w s q.result _ _
     (over_scale_is kept tables w s c.args.id c.args.part.now c.in-Ok.p (c.in-Ok.ensures w (seen kept tables w s))
-    c.in-Some.refusal (sym c.in-Some.is ∙ (rw c.weight.ensures.weight at c.over_scale.ensures)))
+    c.in-Some.refusal (sym c.in-Some.is ∙ (rw (c.weight.ensures.weight, c.content.ensures) at c.over_scale.ensures)))
     refl q.ensures.reply q.ensures.rows q.ensures.patch
 
 pub enter-requires-clause-free : goal.enter-requires-clause-free
@@ -48,8 +48,8 @@ returns-clause-judged c w s =
     let m = c.args.part.now in
     let p = c.in-Ok.p in
     let ok = c.in-Ok.ensures w (seen kept tables w s) in
-    let fits = rw c.weight.ensures.weight at c.over_scale.ensures in
+    let fits = rw (c.weight.ensures.weight, c.content.ensures) at c.over_scale.ensures in
     IfOk-weaker c.enter.result _ _
-    (entered_is kept tables w s id m p ok c.weight.ensures.whole
+    (entered_is kept tables w s id m p ok (rw c.content.ensures at c.weight.ensures.whole)
     (accepted_is kept tables w s id m p ok (sym c.in_default.is ∙ fits)))
     c.enter.ensures

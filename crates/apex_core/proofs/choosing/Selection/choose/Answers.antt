@@ -3,7 +3,7 @@ use Rattle.std.proofs.lemmas.List.Sums.{fold_more}
 use Rattle.apex_world.specs.declared.calls.Image.{Image}
 use Rattle.apex_world.specs.BootByRows.{chosen_in, pick_in}
 use Rattle.apex_world.specs.Selection.{with_pick}
-use Rattle.apex_core.proofs.Parts.{held_part}
+use Rattle.package_store.proofs.Parts.{held_part}
 use Rattle.apex_core.proofs.choosing.Selection.choose.Goals as goal
 
 pub loop-m-preserved : goal.loop-m-preserved

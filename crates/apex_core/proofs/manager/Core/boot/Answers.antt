@@ -2,6 +2,7 @@ use Rattle.std.proofs.Common.{sym, ap, subst, ◌∙◌, refl}
 use Rattle.apex_world.specs.Boot.{boot_world}
 use Rattle.apex_world.specs.Limits.{units_of}
 use Rattle.apex_core.specs.Core.{Kept, StandsFor}
+use Rattle.apex_core.specs.Unfinished.{AreUnfinished}
 use Rattle.apex_core.proofs.BootTables.{few_units, light_rows, stands_booted}
 use Rattle.apex_core.proofs.manager.Core.boot.Goals as goal
 
@@ -29,10 +30,11 @@ of-requires g c =
           (c.rows_are_those_shown.ensures c.change_all.new.self _ c.by_key.ensures) _ (record {
             scale = refl;
             sessions = refl;
+            unfinished = subst (AreUnfinished c.in_ok-unfinished.unfinished) c.deref-2.ensures.value c.in_ok-unfinished.ensures;
             units = c.units_of-units.ensures ∙ ap units_of c.deref.ensures.value;
             weight = c.kept_weight-weight.ensures;
             image = c.in_ok-image.ensures;
-            active = refl;
+            active = c.active_set.ensures;
             clock = refl;
           }),
     )
@@ -47,9 +49,10 @@ returns-clause-stands g c w s o =
     (c.rows_are_those_shown.ensures c.change_all.new.self _ c.by_key.ensures) _ (record {
       scale = refl;
       sessions = refl;
+      unfinished = subst (AreUnfinished c.in_ok-unfinished.unfinished) c.deref-2.ensures.value c.in_ok-unfinished.ensures;
       units = c.units_of-units.ensures ∙ ap units_of c.deref.ensures.value;
       weight = c.kept_weight-weight.ensures;
       image = c.in_ok-image.ensures;
-      active = refl;
+      active = c.active_set.ensures;
       clock = refl;
     }))
