@@ -20,13 +20,9 @@ pub struct KeptParts {
 }
 
 impl KeptParts {
-    /// The modules that the sessions keep, by what all names hold. It goes over the sessions once, and once more for each
-    /// part of a session that can be undone or rolled back. Fails only if memory runs out.
-    pub fn of(
-        alloc: Global,
-        records: &[Record],
-        held: &HeldByName,
-    ) -> Result<Self, AllocError>
+    /// The modules that the sessions keep, by what all names hold. It goes over the sessions once, and once more for
+    /// each part of a session that can be undone or rolled back. Fails only if memory runs out.
+    pub fn of(alloc: Global, records: &[Record], held: &HeldByName) -> Result<Self, AllocError>
         requires { AreHeld records.now held.now }
         ensures { IfOk result (λ parts. (session : Id) (part : ℕ)
             → has_part parts session part ≡ is_target (kept records.now) session part) }
