@@ -1,6 +1,6 @@
 -- What rows open to is in range, where they are the rows of that world: `opened_record`, `opened_moment` and
 -- `opened_low`.
-use Rattle.std.proofs.Common.{◌≡◌, ℕ, zero, suc, ◌<◌, ◌^◌, leb, eqb, Bool, true, false, cond, List, [], ◌∷◌, length}
+use Rattle.std.proofs.Common.{◌≡◌, ℕ, zero, suc, ◌<◌, ◌^◌, leb, eqb, Bool, true, false, cond, List, [], length}
 use Rattle.std.proofs.Common.{Option, Some, None, sym, ap, subst, ◌∙◌, refl, arith}
 use Rattle.std.specs.Prelude.{IfSome, option_and_then}
 use Rattle.std.specs.Int.{w32, w64}

@@ -1,7 +1,7 @@
 -- What rows open to stands under names: `contents_table`, `watches_table` and `era_table`.
 use Rattle.std.proofs.Common.{◌≡◌, ◌≢◌, ℕ, Bool, true, false, cond, eqb, IsTrue, List, [], ◌∷◌, ◌++◌, length, map}
-use Rattle.std.proofs.Common.{flat_map, filter, Option, Some, None, sym, ap, subst, ◌∙◌, refl, inl, inr}
-use Rattle.std.specs.Prelude.{fold, IfSome, option_and_then}
+use Rattle.std.proofs.Common.{flat_map, Option, Some, None, sym, ap, subst, ◌∙◌, refl, inl, inr}
+use Rattle.std.specs.Prelude.{fold, IfSome}
 use Rattle.std.specs.Ordering.{nat_cmp, eq_by_cmp}
 use Rattle.std.specs.Cmp.Lexicographic.{slice_cmp, nat_list_cmp_total}
 use Rattle.std.specs.FinMap as fin
@@ -13,9 +13,8 @@ use Rattle.apex_base.specs.declared.records.Record.{Record}
 use Rattle.apex_base.specs.Keys.{RowMap, pair_of, tabulate, ends_of, data_front, snapshot_front, pre_restore_front}
 use Rattle.apex_base.specs.Keys.{watch_front}
 use Rattle.apex_base.specs.Members.{In}
-use Rattle.apex_base.specs.Sessions.{names}
 use Rattle.apex_base.specs.Spelling.{IsRecord, IsPart}
-use Rattle.apex_base.specs.Tables.{NameMap, Table, with_part, value_of}
+use Rattle.apex_base.specs.Tables.{NameMap, Table, with_part}
 use Rattle.apex_base.specs.Text.{is_name}
 use Rattle.apex_base.proofs.Finding.{some_if, some_then}
 use Rattle.apex_base.proofs.MemberLemmas.{in_append, in_flat_map_back, in_map_back, in_filter, each_in}

@@ -1,14 +1,12 @@
 -- What is read as a record has names, whatever the numbers that are read: `read_texts`.
-use Rattle.std.proofs.Common.{◌≡◌, ℕ, zero, suc, Bool, true, eqb, IsTrue, List, [], ◌∷◌, map, Option, Some, None, refl, ap}
-use Rattle.std.proofs.Common.{subst}
+use Rattle.std.proofs.Common.{ℕ, zero, suc, eqb, IsTrue, List, [], ◌∷◌, map, Some, None}
 use Rattle.std.specs.Prelude.{IfSome}
 use Rattle.std.specs.Int.{w32, w64}
 use Rattle.std.specs.List.{AllByRecursion}
 use Rattle.apex_base.specs.declared.numbers.SessionId.{SessionId}
 use Rattle.apex_base.specs.declared.records.Cause.TheVariants as causes
 use Rattle.apex_base.specs.declared.records.Part.{Part}
-use Rattle.apex_base.specs.declared.records.Record.{Record}
-use Rattle.apex_base.specs.Reading.{◌>>=◌, byte_at, number_at, short_at}
+use Rattle.apex_base.specs.Reading.{byte_at, number_at, short_at}
 use Rattle.apex_base.specs.Spelling.{name_at, print_at, moment_at, state_at, kind_at, rollback_at, cause_at, case_at}
 use Rattle.apex_base.specs.Spelling.{case_of_number, superseded_at, version_of_number, target_at, part_at, parts_at}
 use Rattle.apex_base.specs.Spelling.{children_of, record_of}

@@ -1,5 +1,5 @@
 -- A test that refuses: `refused`.
-use Rattle.std.proofs.Common.{◌≡◌, Bool, true, false, Decides, sym, ◌∙◌}
+use Rattle.std.proofs.Common.{◌≡◌, Bool, false, Decides, sym, ◌∙◌}
 use Rattle.std.proofs.lemmas.Bool.{true≢false}
 
 -- where a part is refused, the whole is

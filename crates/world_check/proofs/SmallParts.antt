@@ -1,7 +1,7 @@
 -- The targets of lawful sessions have part numbers of one byte, so that their records have room: `have_room`. A session
 -- that was submitted has its own modules. One that a rollback made has those of sessions that were activated earlier.
-use Rattle.std.proofs.Common.{◌≡◌, ℕ, zero, suc, ◌+◌, ◌<◌, ◌≤◌, Bool, true, false, List, [], ◌∷◌, length, map, Some, sym}
-use Rattle.std.proofs.Common.{subst, refl, inl, inr, ◌⊎◌, arith, ltb, ◌&&◌}
+use Rattle.std.proofs.Common.{◌≡◌, ℕ, zero, suc, ◌+◌, ◌<◌, ◌≤◌, true, false, List, [], ◌∷◌, length, map, Some, sym}
+use Rattle.std.proofs.Common.{subst, refl, inl, inr, arith, ltb, ◌&&◌}
 use Rattle.std.specs.Prelude.{nat_lt}
 use Rattle.std.specs.List.{AllByRecursion}
 use Rattle.std.proofs.lemmas.Bool.{and_parts, ltb-true}
