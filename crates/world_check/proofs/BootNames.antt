@@ -1,6 +1,7 @@
 -- As many names have data just before a boot, or now, as there are fronts of that boot. Callers want `contents_count`,
 -- `era_count` and `count_length`.
-use Rattle.std.proofs.Common.{◌≡◌, ◌≢◌, ◌⊎◌, ℕ, ◌+◌, ◌≤◌, Bool, true, false, cond, eqb, List, [], ◌∷◌, ◌++◌, length, map, filter, flat_map}
+use Rattle.std.proofs.Common.{◌≡◌, ◌≢◌, ◌⊎◌, ℕ, ◌+◌, ◌≤◌, Bool, true, false, cond, eqb, List, [], ◌∷◌, ◌++◌, length}
+use Rattle.std.proofs.Common.{map, filter, flat_map}
 use Rattle.std.proofs.Common.{drop, Option, Some, None, sym, ap, subst, ◌∙◌, refl, inl, inr, arith}
 use Rattle.std.specs.Prelude.{fold, IfSome}
 use Rattle.std.specs.FinMap as fin
@@ -26,7 +27,8 @@ use Rattle.apex_base.proofs.RowMaps.{sorted_entries, entry_get, in_entries, in_k
 use Rattle.apex_base.proofs.SessionLemmas.{of_in}
 use Rattle.apex_base.proofs.SumLemmas.{length_most}
 use Rattle.apex_base.proofs.TableLemmas.{some_value}
-use Rattle.apex_world.specs.Opened.{opened_boots, opened_sessions, opened_contents, values_in, names_in, activated_at, kept_of, named_in}
+use Rattle.apex_world.specs.Opened.{opened_boots, opened_sessions, opened_contents, values_in, names_in, activated_at}
+use Rattle.apex_world.specs.Opened.{kept_of, named_in}
 use Rattle.apex_world.specs.Rows.{has_snapshot}
 use Rattle.apex_world.proofs.WorldRows.{in_part}
 use Rattle.row_opening.specs.BadRows.{opened_rows}
@@ -37,10 +39,12 @@ use Rattle.session_check.specs.LawfulSessions.{AreLawfulSessions}
 use Rattle.world_check.specs.DataRows.{Row, front_of, value_weight, weighed, weights_in, boot_of, counted, same_boot}
 use Rattle.world_check.specs.Runs.{weight_if, key_weight, run_keys}
 use Rattle.world_check.proofs.Differing.{keys_differ, mapped_differ, filter_differ}
-use Rattle.world_check.proofs.EraRows.{tag_of, tag_if, boot_kept, data_is, era_is, era_none, one_session, counted_back, IsDataFront}
+use Rattle.world_check.proofs.EraRows.{tag_of, tag_if, boot_kept, data_is, era_is, era_none, one_session}
+use Rattle.world_check.proofs.EraRows.{counted_back, IsDataFront}
 use Rattle.world_check.proofs.EraRows.{IsSessionFront, front_kind, session_boot}
 use Rattle.world_check.proofs.FrontForms.{data_name, kept_name, data_front_of, kept_front_of, fronted, full_front}
-use Rattle.world_check.proofs.RowRuns.{AllFull, weighed_as, weight_back, weight_there, rows_together, rows_begin, no_empty_front}
+use Rattle.world_check.proofs.RowRuns.{AllFull, weighed_as, weight_back, weight_there, rows_together, rows_begin}
+use Rattle.world_check.proofs.RowRuns.{no_empty_front}
 use Rattle.world_check.proofs.RunSums.{run_key_back, run_key_there, run_keys_apart}
 
 -- Tables are made of parts that have something
@@ -145,7 +149,8 @@ module _ (m : RowMap) (scale : Scale) (right : opened_rows m scale ≡ m) where
   rows = fin.entries m
 
   pub all_full : AllFull rows
-  all_full row front h e = full_front m row.0 row.1 front (fronted m scale right row.0 row.1 front (entry_get m row h) e)
+  all_full row front h e =
+      full_front m row.0 row.1 front (fronted m scale right row.0 row.1 front (entry_get m row h) e)
 
   abbrev pub fronts : List (List ℕ)
   fronts = run_keys bytes_eq [] (weights_in rows)

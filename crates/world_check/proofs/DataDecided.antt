@@ -1,6 +1,7 @@
--- The rows tell whether data is lawful: the weights of fronts, and how often each boot has one. Callers want `too_heavy`
--- and `few_data`.
-use Rattle.std.proofs.Common.{◌≡◌, ◌≢◌, ◌⊎◌, ℕ, zero, suc, ◌+◌, ◌<◌, ◌≤◌, Bool, true, false, cond, eqb, leb, List, [], ◌∷◌, length, map}
+-- The rows tell whether data is lawful: the weights of fronts, and how often each boot has one. Callers want
+-- `too_heavy` and `few_data`.
+use Rattle.std.proofs.Common.{◌≡◌, ◌≢◌, ◌⊎◌, ℕ, zero, suc, ◌+◌, ◌<◌, ◌≤◌, Bool, true, false, cond, eqb, leb, List, []}
+use Rattle.std.proofs.Common.{◌∷◌, length, map}
 use Rattle.std.proofs.Common.{sum, None, sym, ap, subst, ◌∙◌, refl, inl, inr, arith, Decides}
 use Rattle.std.specs.FinMap as fin
 use Rattle.std.specs.FinMap.{get-empty}
@@ -33,8 +34,10 @@ use Rattle.session_check.specs.LawfulSessions.{AreLawfulSessions}
 use Rattle.world_check.specs.DataRows.{weights_in, boots_in, counted, same_boot}
 use Rattle.world_check.specs.LawfulParts.{HasLawfulData}
 use Rattle.world_check.specs.Runs.{are_light, key_weight}
-use Rattle.world_check.proofs.BootNames.{all_full, fronts, fronts_at, count_length, contents_count, era_count, later_none}
-use Rattle.world_check.proofs.EraRows.{tag_of, tag_if, data_is, era_is, era_none, counted_back, IsDataFront, IsSessionFront, front_kind}
+use Rattle.world_check.proofs.BootNames.{all_full, fronts, fronts_at, count_length, contents_count, era_count}
+use Rattle.world_check.proofs.BootNames.{later_none}
+use Rattle.world_check.proofs.EraRows.{tag_of, tag_if, data_is, era_is, era_none, counted_back, IsDataFront}
+use Rattle.world_check.proofs.EraRows.{IsSessionFront, front_kind}
 use Rattle.world_check.proofs.FrontForms.{data_name, kept_name, data_front_of, kept_front_of}
 use Rattle.world_check.proofs.FrontWeights.{front_weighs}
 use Rattle.world_check.proofs.RowRuns.{Item, weighed_as, weight_back, rows_together, rows_begin}
@@ -143,7 +146,8 @@ module _ (m : RowMap) (scale : Scale) (right : opened_rows m scale ≡ m)
   abbrev Law : Type 0
   Law = HasLawfulData (opened m scale)
 
-  each_by : (q : List ℕ) (y : Item) → y.0 ≡ q → Law → IsDataFront m scale right lawful y.0 ⊎ IsSessionFront m scale right lawful y.0
+  each_by : (q : List ℕ) (y : Item) → y.0 ≡ q → Law
+      → IsDataFront m scale right lawful y.0 ⊎ IsSessionFront m scale right lawful y.0
       → key_weight bytes_eq q weights ≤ scale_data_weight scale
   each_by q y e law (inl d) =
       let weighs = contents_weigh d.name in

@@ -1,6 +1,7 @@
--- What a name had just before a boot is what the rows of the one session say that this boot activated and that names it.
--- Callers want `data_is`, `era_is`, `era_none`, `front_kind` and `boot_kept`.
-use Rattle.std.proofs.Common.{◌≡◌, ◌≢◌, ◌⊎◌, ℕ, ◌<◌, ◌≤◌, ◌^◌, Bool, true, false, cond, eqb, ◌&&◌, not, List, [], ◌∷◌, ◌++◌}
+-- What a name had just before a boot is what the rows of the one session say that this boot activated and that has the
+-- name. Callers want `data_is`, `era_is`, `era_none`, `front_kind` and `boot_kept`.
+use Rattle.std.proofs.Common.{◌≡◌, ◌≢◌, ◌⊎◌, ℕ, ◌<◌, ◌≤◌, ◌^◌, Bool, true, false, cond, eqb, ◌&&◌, not, List, [], ◌∷◌}
+use Rattle.std.proofs.Common.{◌++◌}
 use Rattle.std.proofs.Common.{length, Option, Some, None, sym, ap, subst, ◌∙◌, refl, inl, inr}
 use Rattle.std.specs.Prelude.{option_and_then, nat_le}
 use Rattle.std.specs.Int.{w32}
@@ -27,7 +28,8 @@ use Rattle.apex_world.specs.Opened.{opened_boots, opened_sessions, opened_conten
 use Rattle.apex_world.specs.Rows.{has_snapshot, has_pre_restore, undoes}
 use Rattle.apex_world.proofs.WorldRows.{same_id}
 use Rattle.row_opening.specs.BadRows.{opened_rows}
-use Rattle.row_opening.specs.KeptRows.{IsKeptTag, kept_text, kept_row, kept_if, kept_by, kept_value, keeps, counting, first_kept, era_value, is_boot}
+use Rattle.row_opening.specs.KeptRows.{IsKeptTag, kept_text, kept_row, kept_if, kept_by, kept_value, keeps, counting}
+use Rattle.row_opening.specs.KeptRows.{first_kept, era_value, is_boot}
 use Rattle.row_opening.proofs.EraValues.{opened_at, at_boot}
 use Rattle.row_opening.proofs.KeptKeys.{kept_there}
 use Rattle.row_opening.proofs.OpenedRecords.{session_id}
@@ -158,7 +160,8 @@ module _ (m : RowMap) (scale : Scale) (right : opened_rows m scale ≡ m) where
 
       first_one : (tag : ℕ) (s : Record) (rs : List Record) → ((t : Record) → In t (s ∷ rs) → t ≡ r)
           → first_kept m tag (short_text name key) (s ∷ rs) ≡ at_tag tag
-      first_one tag s [] all = or_none _ ∙ ap (λ (t : Record). fin.get m (kept_text tag t.id name key)) (all s (inl refl))
+      first_one tag s [] all =
+          or_none _ ∙ ap (λ (t : Record). fin.get m (kept_text tag t.id name key)) (all s (inl refl))
       first_one tag s (t ∷ rs) all =
           ap (option_or (fin.get m (kept_text tag s.id name key)))
           (first_one tag t rs (λ u h. all u (inr h)))

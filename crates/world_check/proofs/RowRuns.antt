@@ -41,7 +41,8 @@ between (x ∷ f) a c (y ∷ k) low high =
 
 -- What is weighed
 
-pub weighed_as : (row : Row) (x : Item) → weighed row ≡ Some x → (front_of row.0 ≡ Some x.0) × (x.1 ≡ value_weight x.0 row)
+pub weighed_as : (row : Row) (x : Item) → weighed row ≡ Some x
+    → (front_of row.0 ≡ Some x.0) × (x.1 ≡ value_weight x.0 row)
 weighed_as row x e =
     let (f, g, h) = some_of (λ (front : List ℕ). (front, value_weight front row)) (front_of row.0) x e in (
       g ∙ ap (λ (y : Item). Some y.0) h,
@@ -111,8 +112,8 @@ module _ (front a : List ℕ) (each : (b : List ℕ) → front_of (front ++ b) �
       goes_if (weighed e) e es refl up all
       (goes es ((and_parts _ _ up.0).1, (and_parts _ _ up.1).1) (λ row f h. all row f (inr h)))
 
-together_if : (o : Option Item) (e : Row) (es : List Row) → weighed e ≡ o → is_sorted (slice_cmp nat_cmp) (e ∷ es) ≡ true
-    → AllFull (e ∷ es) → StandTogether bytes_eq bytes_eq-Decides (weights_in es)
+together_if : (o : Option Item) (e : Row) (es : List Row) → weighed e ≡ o
+    → is_sorted (slice_cmp nat_cmp) (e ∷ es) ≡ true → AllFull (e ∷ es) → StandTogether bytes_eq bytes_eq-Decides (weights_in es)
     → StandTogether bytes_eq bytes_eq-Decides (with_some o (weights_in es))
 together_if None e es w s all more = more
 together_if (Some y) e es w s all more =

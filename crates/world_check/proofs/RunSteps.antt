@@ -1,5 +1,6 @@
 -- One row more: what becomes of the boots that were noted. Callers want `boots_pass`, `boots_on` and `boots_more`.
-use Rattle.std.proofs.Common.{◌≡◌, ℕ, Bool, true, false, cond, List, [], ◌∷◌, ◌++◌, map, Option, Some, None, sym, ap, ◌∙◌}
+use Rattle.std.proofs.Common.{◌≡◌, ℕ, Bool, true, false, cond, List, [], ◌∷◌, ◌++◌, map, Option, Some, None, sym, ap}
+use Rattle.std.proofs.Common.{◌∙◌}
 use Rattle.std.specs.Option.{option_map}
 use Rattle.std.specs.Str.{bytes_eq}
 use Rattle.std.proofs.lemmas.List.{append_assoc}
@@ -9,7 +10,8 @@ use Rattle.world_check.specs.DataRows.{Row, front_of, value_weight, with_some, w
 use Rattle.world_check.specs.Runs.{run_keys}
 
 module _ (ss : List Record) (last key : List ℕ) where
-  weighed_none : (value : List ℕ) (rows : List Row) → front_of key ≡ None → weights_in ((key, value) ∷ rows) ≡ weights_in rows
+  weighed_none : (value : List ℕ) (rows : List Row) → front_of key ≡ None
+      → weights_in ((key, value) ∷ rows) ≡ weights_in rows
   weighed_none value rows e = ap (λ (o : Option (List ℕ)). with_some (option_map
       (λ (front : List ℕ). (front, value_weight front (key, value))) o) (weights_in rows)) e
 

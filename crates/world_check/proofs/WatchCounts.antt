@@ -1,6 +1,7 @@
 -- Watches are as many as their rows, and end as these say. Callers want `watches_decided`.
 use Rattle.std.proofs.Common.{T, ◌≡◌, ◌≢◌, ℕ, ◌-◌, ◌*◌, ◌≤◌, Bool, true, false, cond, eqb, List, [], ◌∷◌, length}
-use Rattle.std.proofs.Common.{map, filter, flat_map, Option, Some, None, sym, ap, subst, ◌∙◌, refl, inl, inr, arith, Decides, is_some}
+use Rattle.std.proofs.Common.{map, filter, flat_map, Option, Some, None, sym, ap, subst, ◌∙◌, refl, inl, inr, arith}
+use Rattle.std.proofs.Common.{Decides, is_some}
 use Rattle.std.specs.Ordering.{nat_cmp}
 use Rattle.std.specs.Cmp.Lexicographic.{slice_cmp}
 use Rattle.std.specs.FinMap as fin
@@ -198,7 +199,8 @@ module _ (m : RowMap) (scale : Scale) (right : opened_rows m scale ≡ m) where
       → end ≤ 18014398509481982
   ends_forth each observer name end e =
       let (v, row) = watch_there m observer name end e in
-      let time = each (watch_front observer name, v) (in_entries m (watch_front observer name) v row.there) (refl {a = true}) in
+      let there = in_entries m (watch_front observer name) v row.there in
+      let time = each (watch_front observer name, v) there (refl {a = true}) in
       leb-true end 18014398509481982 (ap is_in_time (sym row.read) ∙ time)
 
   ends_back : ((observer name : List ℕ) (end : ℕ) → value_of t observer name ≡ Some end → end ≤ 18014398509481982)
