@@ -30,7 +30,8 @@ runs : (g : given.Over) (c : After-write_behind_gate g)
 runs g c =
     format_runs g.D.Disk.reads g.D.Disk.images g.D.Disk.moment g.D.Disk.images_since g.met.D.Disk.only_now
     c.args.disk.now c.reserve.new.self c.write_behind_gate.new.disk c.requires.blank c.reserve.ensures.images.fewer
-    (wide g c) c.args.scale c.deref.result.now (headed g c) c.reserve.ensures.time c.write_behind_gate.ensures.any_moment
+    (wide g c) c.args.scale c.deref.result.now (headed g c) c.reserve.ensures.time
+    c.write_behind_gate.ensures.any_moment
 
 pub returns-in-Err-clause-any_moment : goal.returns-in-Err-clause-any_moment
 returns-in-Err-clause-any_moment g c = runs g (goal.at.returns-in-Err-clause-any_moment g c).After-write_behind_gate

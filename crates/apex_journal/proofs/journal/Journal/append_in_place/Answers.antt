@@ -101,7 +101,8 @@ returns-clause-appended g c =
       used = c.self.inside.used;
     })
     records stands c.reserve.new.self c.reserve.ensures.reads c.reserve.ensures.images.fewer
-    (drop 4 c.args.bytes.items) c.deref.result.now (bytes g wrote) (c.self.inside.start + c.self.inside.used - 1) (here g wrote)
+    (drop 4 c.args.bytes.items) c.deref.result.now (bytes g wrote) (c.self.inside.start + c.self.inside.used - 1)
+    (here g wrote)
     c.self.invariant.long (fits g wrote) c.write_behind_gate.new.disk
     (c.self.inside.used + (c.len.result + 1)) (omega (
       arith,
