@@ -3,6 +3,7 @@ use Rattle.apex_base.specs.RowSums.{module_at}
 use Rattle.row_map.specs.Rows.{rows_of, shown}
 use Rattle.package_store.specs.Placed.{path_in}
 use Rattle.package_store.proofs.Filed.{Filed, starts, passes, takes, is_named, has_room, ends}
+use Rattle.package_store.proofs.reading.module_of.Goals.{In-Some, In-Some-path_in}
 use Rattle.package_store.proofs.reading.module_of.Goals as goal
 
 pub loop-key-init : goal.loop-key-init
@@ -13,54 +14,49 @@ loop-key-init c =
     (starts c.args.session c.args.part whole c.new-files.result c.args.rows.now.entries refl c.requires gives.5
     c.new-files.ensures)
 
+-- the rows from one on are filed after those before it
+filed : (c : In-Some) → Filed c.args.session c.args.part
+    (module_at (rows_of c.args.rows.now.entries) c.args.session c.args.part) c.loop-key.files
+    ((c.in-Some.key.now.items, c.in-Some.content.now) ∷ shown c.next.new.self)
+filed c =
+    let whole = module_at (rows_of c.args.rows.now.entries) c.args.session c.args.part in
+    subst (λ es. Filed c.args.session c.args.part whole c.loop-key.files (shown es)) c.in-Some.ensures.steps
+    c.loop-key.invariant
+
+-- and its key is that of a file of the module
+named : (c : In-Some-path_in)
+    → path_in c.args.session c.args.part c.in-Some.key.now.items ≡ Some c.in-Some-path_in.path.now
+named c = ap (path_in c.args.session c.args.part) (sym c.deref.ensures.value) ∙ sym c.in-Some-path_in.ensures
+
 pub add_file-requires-clause-named : goal.add_file-requires-clause-named
 add_file-requires-clause-named c =
     let whole = module_at (rows_of c.args.rows.now.entries) c.args.session c.args.part in
-    let row : List ℕ × List ℕ = (c.in-Some.key.now.items, c.in-Some.content.now) in
-    let rest = shown c.next.new.self in
-    let f : Filed c.args.session c.args.part whole c.loop-key.files (row ∷ rest) =
-    subst (λ es. Filed c.args.session c.args.part whole c.loop-key.files (shown es)) c.in-Some.ensures.steps
-    c.loop-key.invariant in
-    let its : path_in c.args.session c.args.part row.0 ≡ Some c.in-Some-path_in.path.now =
-    ap (path_in c.args.session c.args.part) (sym c.deref.ensures.value) ∙ sym c.in-Some-path_in.ensures in
-    is_named c.args.session c.args.part whole c.loop-key.files row rest f c.in-Some-path_in.path.now its c.requires
+    let f = filed (goal.at.add_file-requires-clause-named c).In-Some in
+    let its = named (goal.at.add_file-requires-clause-named c).In-Some-path_in in
+    is_named c.args.session c.args.part whole c.loop-key.files _ _ f c.in-Some-path_in.path.now its c.requires
 
 pub add_file-requires-clause-fits : goal.add_file-requires-clause-fits
 add_file-requires-clause-fits c =
     let whole = module_at (rows_of c.args.rows.now.entries) c.args.session c.args.part in
-    let row : List ℕ × List ℕ = (c.in-Some.key.now.items, c.in-Some.content.now) in
-    let rest = shown c.next.new.self in
-    let f : Filed c.args.session c.args.part whole c.loop-key.files (row ∷ rest) =
-    subst (λ es. Filed c.args.session c.args.part whole c.loop-key.files (shown es)) c.in-Some.ensures.steps
-    c.loop-key.invariant in
-    let its : path_in c.args.session c.args.part row.0 ≡ Some c.in-Some-path_in.path.now =
-    ap (path_in c.args.session c.args.part) (sym c.deref.ensures.value) ∙ sym c.in-Some-path_in.ensures in
+    let f = filed (goal.at.add_file-requires-clause-fits c).In-Some in
+    let its = named (goal.at.add_file-requires-clause-fits c).In-Some-path_in in
     rw c.as_slice.ensures
-    (has_room c.args.session c.args.part whole c.loop-key.files row rest f c.in-Some-path_in.path.now its c.requires)
+    (has_room c.args.session c.args.part whole c.loop-key.files _ _ f c.in-Some-path_in.path.now its c.requires)
 
 pub loop-key-preserved : goal.loop-key-preserved
 loop-key-preserved c =
     let whole = module_at (rows_of c.args.rows.now.entries) c.args.session c.args.part in
-    let row : List ℕ × List ℕ = (c.in-Some.key.now.items, c.in-Some.content.now) in
-    let rest = shown c.next.new.self in
-    let f : Filed c.args.session c.args.part whole c.loop-key.files (row ∷ rest) =
-    subst (λ es. Filed c.args.session c.args.part whole c.loop-key.files (shown es)) c.in-Some.ensures.steps
-    c.loop-key.invariant in
-    let none : path_in c.args.session c.args.part row.0 ≡ None =
+    let f = filed (goal.at.loop-key-preserved c).In-Some in
+    let none : path_in c.args.session c.args.part c.in-Some.key.now.items ≡ None =
     ap (path_in c.args.session c.args.part) (sym c.deref.ensures.value) ∙ sym c.in_default.ensures in
-    passes c.args.session c.args.part whole c.loop-key.files row rest f none
+    passes c.args.session c.args.part whole c.loop-key.files _ _ f none
 
 pub loop-key-preserved-in-Continue-1 : goal.loop-key-preserved-in-Continue-1
 loop-key-preserved-in-Continue-1 c =
     let whole = module_at (rows_of c.args.rows.now.entries) c.args.session c.args.part in
-    let row : List ℕ × List ℕ = (c.in-Some.key.now.items, c.in-Some.content.now) in
-    let rest = shown c.next.new.self in
-    let f : Filed c.args.session c.args.part whole c.loop-key.files (row ∷ rest) =
-    subst (λ es. Filed c.args.session c.args.part whole c.loop-key.files (shown es)) c.in-Some.ensures.steps
-    c.loop-key.invariant in
-    let its : path_in c.args.session c.args.part row.0 ≡ Some c.in-Some-path_in.path.now =
-    ap (path_in c.args.session c.args.part) (sym c.deref.ensures.value) ∙ sym c.in-Some-path_in.ensures in
-    takes c.args.session c.args.part whole c.loop-key.files row rest f c.in-Some-path_in.path.now its
+    let f = filed (goal.at.loop-key-preserved-in-Continue-1 c).In-Some in
+    let its = named (goal.at.loop-key-preserved-in-Continue-1 c).In-Some-path_in in
+    takes c.args.session c.args.part whole c.loop-key.files _ _ f c.in-Some-path_in.path.now its
     c.add_file.new.files (rw c.as_slice.ensures at c.in_ok-add_file.ensures)
 
 pub returns : goal.returns
