@@ -92,6 +92,11 @@ pub stands_still : {X Y : Type 0} (result : Result X Y) (kept : RowMap) (tables 
 stands_still (Ok x) kept tables w v next stays = (v, next)
 stands_still (Err y) kept tables w v next stays = (w, stays)
 
+-- what holds anyway holds after an error
+pub if_err : {X Y P : Type 0} (result : Result X Y) → P → OnErr result P
+if_err (Ok x) h = tt
+if_err (Err y) h = h
+
 -- the same rows and tables, where the call changes nothing
 pub stands_quiet : (kept : RowMap) (tables : Tables) (w : World) (call : Call) (judged : Judged)
     → StandsFor kept tables w → IsJudged judged kept w call → judged.rows.items ≡ [] → judged.patch ≡ Nothing

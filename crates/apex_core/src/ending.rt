@@ -23,7 +23,10 @@ use crate::files::take_files;
 use crate::judged::{Judged, Patch};
 use crate::rows::{record_rows, session_in};
 use crate::tables::Tables;
-use apex_base::{Bytes, Listed, Millis, Move, Name, Part, Record, Refusal, SessionId, State, Target, moved, place_of};
+use apex_base::{
+    Bytes, Listed, Millis, Move, Name, Part, Record, Refusal, SessionId, State, Target, moved,
+    place_of,
+};
 use apex_world::Reply;
 use row_codec::Row;
 use row_map::Rows;
@@ -92,11 +95,7 @@ pub(crate) fn judge_success(
 }
 
 /// What changes where a session succeeds: its record, the row of what its name held before, and the files of that.
-fn success_rows(
-    alloc: Global,
-    rows: &Rows,
-    session: &Record,
-) -> Result<Vec<Row>, AllocError>
+fn success_rows(alloc: Global, rows: &Rows, session: &Record) -> Result<Vec<Row>, AllocError>
     requires room { HasRoom session.now }
     requires numbered { HasPartNumber (row_before rows.now session.now) }
     ensures rows { IfOk result (λ batch. batch.items ≡ success_batch rows.now session.now) }

@@ -18,7 +18,9 @@ use crate::admitting::admit;
 use crate::judged::{Judged, Patch};
 use crate::rows::record_rows;
 use crate::tables::Tables;
-use apex_base::{Kind, Listed, Millis, Part, Print, Record, Refusal, SessionId, State, Target, Why, place_of};
+use apex_base::{
+    Kind, Listed, Millis, Part, Print, Record, Refusal, SessionId, State, Target, Why, place_of,
+};
 use apex_world::{Package, Reply, SharedModule};
 use package_store::put;
 use row_codec::Row;

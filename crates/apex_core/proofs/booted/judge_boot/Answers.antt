@@ -28,9 +28,12 @@ pub choose-requires-after_bounds : goal.choose-requires-after_bounds
 choose-requires-after_bounds g c κs within =
     let (w, (s, o)) = c.requires.stored in (
       c.deref-2.result.now,
-      (parts_left c.args.rows.now w s (g.M.Mounter.mounting c.args.mounter.now) c.args.order.now
-          (c.in_ok-boots.boots.count + 1) c.in_ok-sessions.sessions.items c.deref-2.result.now c.in_ok-sessions.ensures
-          (c.deref-2.ensures.value ∙ c.in_ok-boot_sessions.ensures.sessions), c.in_ok-held.ensures),
+      (
+        parts_left c.args.rows.now w s (g.M.Mounter.mounting c.args.mounter.now) c.args.order.now
+            (c.in_ok-boots.boots.count + 1) c.in_ok-sessions.sessions.items c.deref-2.result.now c.in_ok-sessions.ensures
+            (c.deref-2.ensures.value ∙ c.in_ok-boot_sessions.ensures.sessions),
+        c.in_ok-held.ensures,
+      ),
     )
 
 pub with_settled-requires-clause-held : goal.with_settled-requires-clause-held
