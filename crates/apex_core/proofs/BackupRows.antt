@@ -20,7 +20,7 @@ use Rattle.apex_base.proofs.SpellingLemmas.{target_again}
 use Rattle.apex_world.specs.Lawful.{Lawful}
 use Rattle.apex_world.specs.Rows.{rows}
 use Rattle.apex_world.specs.World.{World}
-use Rattle.apex_world.proofs.KeptLemmas.{names_own, unfinished_as}
+use Rattle.apex_world.proofs.KeptLemmas.{names_own, undoable_unfinished}
 use Rattle.apex_world.proofs.OpenedSessions.{one_session}
 use Rattle.apex_world.proofs.WorldRows.{backup_at}
 use Rattle.apex_core.specs.Ending.{held_before, spelled, read_target}
@@ -33,7 +33,7 @@ module _ (w : World) (law : Lawful w) (r : Record) (h : In r w.sessions) (u : is
   same_if x name true e i v m n = one_session w.sessions x r law.ids.ascend i h (eqb-true _ _ e)
   same_if x name false e i v m n =
       absurd (law.alone x r name i h (λ f. false≢true (sym e ∙ eq-eqb x.id.0 r.id.0 f)) m n
-      (unfinished_as x.state v) (unfinished_as r.state u))
+      (undoable_unfinished x.state v) (undoable_unfinished r.state u))
 
   -- of those that have its name it alone can be undone
   alone : (name : List ℕ) → names name r ≡ true → find (is_undoable_for name) w.sessions ≡ Some r

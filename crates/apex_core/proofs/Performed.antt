@@ -84,6 +84,11 @@ stands_same kept kept' before after w s e p = record {
   clock = p.clock ∙ s.clock;
 }
 
+-- what holds anyway holds after an error
+pub if_err : {X Y P : Type 0} (result : Result X Y) → P → OnErr result P
+if_err (Ok x) h = tt
+if_err (Err y) h = h
+
 -- the same rows and tables, where the call changes nothing
 pub stands_quiet : (kept : RowMap) (tables : Tables) (w : World) (call : Call) (judged : Judged)
     → StandsFor kept tables w → IsJudged judged kept w call → judged.rows.items ≡ [] → judged.patch ≡ Nothing

@@ -7,7 +7,6 @@ use Rattle.apex_base.specs.declared.records.Record.{Record}
 use Rattle.apex_base.specs.Held.{is_success}
 use Rattle.row_codec.specs.declared.batch.Row.{Row}
 use Rattle.row_codec.specs.Batch.{keys_of}
-use Rattle.session_record.specs.Room.{HasPartNumber}
 use Rattle.apex_world.specs.declared.calls.Call.TheVariants as calls
 use Rattle.apex_world.proofs.PlainLemmas.{success_plain}
 use Rattle.apex_core.proofs.Batches.{none_ascend}

@@ -1,8 +1,8 @@
-use Rattle.std.proofs.Common.{◌≡◌, ◌∙◌, refl}
+use Rattle.std.proofs.Common.{◌≡◌, ◌∙◌, refl, rules}
 use Rattle.apex_core.specs.Prepared.{call_of}
 use Rattle.row_map.specs.Rows.{changed}
 use Rattle.row_map.proofs.Rooms.{table_after}
-use Rattle.apex_core.proofs.Performed.{weighs, small_now, small_next, weighs_next, stands_next, stands_same, stands_quiet}
+use Rattle.apex_core.proofs.Performed.{weighs, small_now, small_next, weighs_next, stands_next, stands_same, stands_quiet, if_err}
 use Rattle.apex_core.proofs.manager.perform.Goals as goal
 
 pub weight_after-weight-requires-clause-weighs : goal.weight_after-weight-requires-clause-weighs
@@ -45,5 +45,6 @@ returns-then-changes_nothing-clause-stands c w s =
 
 pub returns-in_err-added-clause-stays : goal.returns-in_err-added-clause-stays
 returns-in_err-added-clause-stays c w s =
-    stands_same c.args.rows.now c.make_room-2.new.self c.args.tables.now c.make_room.new.tables w s (search rules)
-    c.in_ok-make_room.ensures.same
+    if_err c.from_residual-in_err-added.result
+    (stands_same c.args.rows.now c.make_room-2.new.self c.args.tables.now c.make_room.new.tables w s (search rules)
+    c.in_ok-make_room.ensures.same)
