@@ -6,7 +6,6 @@ pub mod Ordered
 pub mod Places
 pub mod Plans
 pub mod PlayedLemmas
-pub mod PreparedCalls
 pub mod Runs
 pub mod Sources
 pub mod Statuses

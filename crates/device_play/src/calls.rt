@@ -1,5 +1,5 @@
 //! The calls of a script as a core takes them.
-ghost use Rattle.std.specs.Prelude.{◌≡◌, [], IfOk, IfSome};
+ghost use Rattle.std.specs.Prelude.{◌≡◌, ◌∷◌, [], IfOk, IfSome};
 ghost use Rattle.apex_world.specs.declared.calls.Call.TheVariants as calls;
 ghost use Rattle.apex_world.specs.Calls.{call_at};
 ghost use Rattle.apex_world.specs.Playable.{IsBuilt};
@@ -24,7 +24,10 @@ pub(crate) fn prepared(alloc: Global, call: &CallRef) -> Prepared
             rollback,
             parts,
             ..
-        } => prepared_submit(alloc, *id, *rollback, parts),
+        } => match parts {
+            [part] => prepared_submit(alloc, *id, *rollback, part),
+            _ => unreachable!(),
+        },
         CallRef::Revert
         | CallRef::Commit { .. }
         | CallRef::Put { .. }
@@ -35,12 +38,12 @@ pub(crate) fn prepared(alloc: Global, call: &CallRef) -> Prepared
     }
 }
 
-/// A submit without children, prepared. It stands apart, so that no other call makes room for it.
+/// A submit of one module without children, prepared. It stands apart, so that no other call makes room for it.
 #[inline(never)]
-fn prepared_submit(alloc: Global, id: SessionId, rollback: bool, parts: &[SharedModule]) -> Prepared
-    ensures { IfSome result (λ c. c ≡ calls.Submit id [] rollback parts.now) }
+fn prepared_submit(alloc: Global, id: SessionId, rollback: bool, part: &SharedModule) -> Prepared
+    ensures { IfSome result (λ c. c ≡ calls.Submit id [] rollback (part.now ∷ [])) }
 {
-    match shared(alloc, parts) {
+    match shared(alloc, part) {
         Ok(parts) => prepare(
             alloc,
             Call::Submit {
@@ -54,13 +57,9 @@ fn prepared_submit(alloc: Global, id: SessionId, rollback: bool, parts: &[Shared
     }
 }
 
-/// One more owner of each module.
-fn shared(alloc: Global, parts: &[SharedModule]) -> Result<ModuleList, AllocError>
-    ensures { IfOk result (λ shared. shared ≡ parts.now) }
+/// The module with one more owner, as the one part of a submit.
+fn shared(alloc: Global, part: &SharedModule) -> Result<ModuleList, AllocError>
+    ensures { IfOk result (λ parts. parts ≡ part.now ∷ []) }
 {
-    let mut shared = Vec::with_capacity(alloc, parts.len())?;
-    for part in parts {
-        shared.push(part.share()?)?;
-    }
-    Ok(Listed::of(shared))
+    Listed::one(alloc, part.share()?)
 }
