@@ -11,7 +11,7 @@ ghost use Rattle.apex_world.specs.World.{World, empty_world};
 ghost use Rattle.device_play.specs.Device.{IsDeviceOf, IsOn};
 ghost use Rattle.device_play.specs.Events.{CanBoot};
 
-use apex_base::{Mounter, Scale};
+use apex_base::{Mounter, Scale, Why};
 use apex_core::Core;
 use apex_world::{BootOrder, BootReply, CallRef, Reply};
 use row_map::Rows;
@@ -60,9 +60,14 @@ impl Device {
     {
         known(order);
         let rows = mem::replace(self, Device::new(alloc)).into_rows();
-        let (core, reply) = Core::boot(alloc, rows, order, mounter)?;
-        *self = Device::On(core);
-        Ok(reply)
+        match Core::boot(alloc, rows, order, mounter) {
+            Ok((core, reply)) => {
+                *self = Device::On(core);
+                Ok(reply)
+            }
+            Err(Why::Fault(_)) => unreachable!(),
+            Err(Why::NoMemory) => Err(AllocError),
+        }
     }
 
     /// A call happens to a device that is on. After an error it may be of the worlds that it was of before.
