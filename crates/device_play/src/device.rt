@@ -2,7 +2,7 @@
 ghost use Rattle.std.specs.Prelude.{◌≡◌, [], IfOk, OnOk, OnErr, IsTrue};
 ghost use Rattle.apex_base.specs.Ranges.{IsMillis};
 ghost use Rattle.apex_base.specs.Text.{is_print};
-ghost use Rattle.apex_core.specs.Core.{IsStored};
+ghost use Rattle.apex_core.specs.Core.{IsStored, StandsFor};
 ghost use Rattle.apex_world.specs.Boot.{boot_reply, boot_world};
 ghost use Rattle.apex_world.specs.Calls.{call_at};
 ghost use Rattle.apex_world.specs.Playable.{IsBuilt};
@@ -58,16 +58,10 @@ impl Device {
             → OnOk result (IsDeviceOf self.new (boot_world w order.now (M.mounting mounter.now))) }
         ensures on { OnOk result (IsOn self.new) }
     {
-        known(order);
         let rows = mem::replace(self, Device::new(alloc)).into_rows();
-        match Core::boot(alloc, rows, order, mounter) {
-            Ok((core, reply)) => {
-                *self = Device::On(core);
-                Ok(reply)
-            }
-            Err(Why::Fault(_)) => unreachable!(),
-            Err(Why::NoMemory) => Err(AllocError),
-        }
+        let (core, reply) = boot_stored(alloc, rows, order, mounter)?;
+        *self = Device::On(core);
+        Ok(reply)
     }
 
     /// A call happens to a device that is on. After an error it may be of the worlds that it was of before.
@@ -85,6 +79,28 @@ impl Device {
             Device::Off(_) => unreachable!(),
             Device::On(core) => core.act(alloc, call),
         }
+    }
+}
+
+/// Boots from the rows of a world that can be booted, so that none of them is refused.
+fn boot_stored<M: Mounter>(
+    alloc: Global,
+    rows: Rows,
+    order: &BootOrder,
+    mounter: &M,
+) -> Result<(Core, BootReply), AllocError>
+    requires can { (w : World) × (IsStored rows w × CanBoot w order.now) }
+    requires alone { order.now.observers ≡ [] }
+    ensures reply { (w : World) → IsStored rows w → CanBoot w order.now
+        → IfOk result (λ up. up.1 ≡ boot_reply w order.now (M.mounting mounter.now)) }
+    ensures stands { (w : World) → IsStored rows w → CanBoot w order.now
+        → IfOk result (λ up. StandsFor up.0.rows up.0.tables (boot_world w order.now (M.mounting mounter.now))) }
+{
+    known(order);
+    match Core::boot(alloc, rows, order, mounter) {
+        Ok(up) => Ok(up),
+        Err(Why::Fault(_)) => unreachable!(),
+        Err(Why::NoMemory) => Err(AllocError),
     }
 }
 

@@ -1,18 +1,18 @@
-use Rattle.std.proofs.Common.{◌≡◌, sym, subst}
-use Rattle.apex_core.specs.Core.{IsStored}
-use Rattle.apex_world.specs.World.{World}
+use Rattle.std.proofs.Common.{sym, subst}
 use Rattle.device_play.specs.Device.{IsDeviceOf}
-use Rattle.device_play.specs.Events.{CanBoot}
-use Rattle.device_play.proofs.Ordered.{an_order, order_of}
-use Rattle.device_play.proofs.StoredKeys.{stored_keyed}
 use Rattle.device_play.proofs.device.Device.boot.Goals as goal
 
-pub boot-requires-clause-keyed : goal.boot-requires-clause-keyed
-boot-requires-clause-keyed g c = λ κs within.
+pub boot_stored-requires-clause-can : goal.boot_stored-requires-clause-can
+boot_stored-requires-clause-can g c = λ κs within.
     let (w, both) = c.requires.can in
-    stored_keyed _ w (c.into_rows-rows.ensures w (subst (λ d. IsDeviceOf d w) (sym c.replace.ensures.value) both.0))
+    (w, (c.into_rows-rows.ensures w (subst (λ d. IsDeviceOf d w) (sym c.replace.ensures.value) both.0), both.1))
 
-pub boot-requires-clause-order : goal.boot-requires-clause-order
-boot-requires-clause-order g c = λ κs within.
-    let (w, both) = c.requires.can in
-    an_order w c.args.order.now c.known.ensures.print c.known.ensures.time both.1
+pub returns-clause-reply : goal.returns-clause-reply
+returns-clause-reply g c = λ w is can.
+    c.in_ok-core.ensures.reply w
+    (c.into_rows-rows.ensures w (subst (λ d. IsDeviceOf d w) (sym c.replace.ensures.value) is)) can
+
+pub returns-clause-leads : goal.returns-clause-leads
+returns-clause-leads g c = λ w is can.
+    c.in_ok-core.ensures.stands w
+    (c.into_rows-rows.ensures w (subst (λ d. IsDeviceOf d w) (sym c.replace.ensures.value) is)) can
