@@ -20,7 +20,8 @@ use Rattle.apex_base.proofs.SpellingLemmas.{target_again}
 use Rattle.apex_world.specs.Lawful.{Lawful}
 use Rattle.apex_world.specs.Rows.{rows}
 use Rattle.apex_world.specs.World.{World}
-use Rattle.apex_world.proofs.KeptLemmas.{names_own, undoable_unfinished}
+use Rattle.apex_world.proofs.KeptLemmas.{names_own}
+use Rattle.apex_world.proofs.StateFacts.{undoable_unfinished}
 use Rattle.apex_world.proofs.OpenedSessions.{one_session}
 use Rattle.apex_world.proofs.WorldRows.{backup_at}
 use Rattle.apex_core.specs.Ending.{held_before, spelled, read_target}

@@ -50,21 +50,21 @@ segments_lead scale n b earlier (s ∷ ss) w is =
     (blocks_lead scale n b earlier s.lanes)
     (segments_lead scale n b (earlier ++ s.lanes) ss) w is
 
-boot_leads : (scale : Scale) (n b : ℕ) (boot : ScriptBoot) → IsOrdered scale boot → n + 1 < 2 ^ 32
+boot_leads : (scale : Scale) (n b : ℕ) (boot : ScriptBoot) → IsOrdered scale boot → n < 4000000000
     → Leads scale n (n + 1) (boot_plan b boot)
 boot_leads scale n b boot ordered few w is =
-    let number : boots w + 1 < 2 ^ 32 = omega (arith, is.1, few) in
+    let left : boots w < 4000000000 = omega (arith, is.1, few) in
     let next = boot_counts scale n w boot.order (all_mount_but boot.mounts) is in
     let (rest, end) = segments_lead scale (n + 1) b [] boot.segments _ next in
     let can : CanBoot w boot.order = record {
       scale = ordered.scaled ∙ sym is.0;
       is_order = ordered.order;
-      number = number;
+      left = left;
     } in
     ((can, rest), end)
 
 boots_lead : (scale : Scale) (n : ℕ) (bs : List ScriptBoot) → AllByRecursion (IsOrdered scale) bs
-    → n + length bs < 2 ^ 32 → Leads scale n (n + length bs) (boots_plan n bs)
+    → n + length bs < 4000000000 → Leads scale n (n + length bs) (boots_plan n bs)
 boots_lead scale n [] ordered few w is = (tt, subst (λ m. IsAt scale m w) (omega arith) is)
 boots_lead scale n (b ∷ bs) ordered few w is =
     let rest : Leads scale (n + 1) (n + length (b ∷ bs)) (boots_plan (n + 1) bs) =
@@ -73,7 +73,7 @@ boots_lead scale n (b ∷ bs) ordered few w is =
     leads-append scale n (n + 1) (n + length (b ∷ bs)) (boot_plan (n + 1) b) (boots_plan (n + 1) bs)
     (boot_leads scale n (n + 1) b ordered.0 (omega (arith, few))) rest w is
 
-pub script_can : (script : Script) → HasOrders script → length script.boots < 2 ^ 32
+pub script_can : (script : Script) → HasOrders script → length script.boots < 4000000000
     → CanFollow (empty_world script.scale) (boots_plan 0 script.boots)
 script_can script orders few =
     (boots_lead script.scale 0 script.boots (recursion_from_All (IsOrdered script.scale) script.boots orders)

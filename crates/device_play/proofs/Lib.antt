@@ -10,3 +10,4 @@ pub mod Runs
 pub mod Sources
 pub mod Statuses
 pub mod Steps
+pub mod StoredKeys

@@ -1,15 +1,16 @@
 -- What can happen to a world.
-use Rattle.std.specs.Prelude.{◌≡◌, ◌<◌, ◌+◌, ◌^◌}
+use Rattle.std.specs.Prelude.{◌≡◌}
+use Rattle.apex_core.specs.Refused.{HasBootsLeft}
 use Rattle.apex_world.specs.declared.calls.BootOrder.{BootOrder}
 use Rattle.apex_world.specs.Fold.{Event, BootOf, CallOf}
 use Rattle.apex_world.specs.Orders.{IsOrder}
-use Rattle.apex_world.specs.World.{World, boots}
+use Rattle.apex_world.specs.World.{World}
 
--- the order is one of the world's scale, and the boot can be numbered
+-- the order is one of the world's scale, and the world hasn't had its last boot
 pub record CanBoot (w : World) (order : BootOrder) : Type 0 where
   pub scale : order.scale ≡ w.scale
   pub is_order : IsOrder order
-  pub number : boots w + 1 < 2 ^ 32
+  pub left : HasBootsLeft w
 
 -- a call can happen at any time
 abbrev pub CanHappen : World → Event → Type 0

@@ -3,7 +3,7 @@ ghost use Rattle.std.specs.Prelude.{◌≡◌, [], IfOk, IsSomeAnd, OnOk, OnErr,
 ghost use Rattle.std.specs.Option.{ForSome};
 ghost use Rattle.apex_base.specs.Ranges.{IsMillis};
 ghost use Rattle.apex_base.specs.Text.{is_print};
-ghost use Rattle.apex_core.specs.Core.{IsStored};
+ghost use Rattle.apex_core.specs.Core.{IsStored, StandsFor};
 ghost use Rattle.apex_core.specs.Prepared.{IfAnswered, IfNoMemory};
 ghost use Rattle.apex_world.specs.Boot.{boot_reply, boot_world};
 ghost use Rattle.apex_world.specs.Calls.{call_at};
@@ -14,7 +14,7 @@ ghost use Rattle.device_play.specs.Device.{IsDeviceOf, IsOn};
 ghost use Rattle.device_play.specs.Events.{CanBoot};
 
 use crate::calls::prepared;
-use apex_base::{Mounter, Scale};
+use apex_base::{Mounter, Scale, Why};
 use apex_core::{Answer, Core, Prepared};
 use apex_world::{BootOrder, BootReply, CallRef, Reply, TurnRow};
 use row_map::Rows;
@@ -61,9 +61,8 @@ impl Device {
             → OnOk result (IsDeviceOf self.new (boot_world w order.now (M.mounting mounter.now))) }
         ensures on { OnOk result (IsOn self.new) }
     {
-        known(order);
         let rows = mem::replace(self, Device::new(alloc)).into_rows();
-        let (core, reply) = Core::boot(alloc, rows, order, mounter)?;
+        let (core, reply) = boot_stored(alloc, rows, order, mounter)?;
         *self = Device::On(core);
         Ok(reply)
     }
@@ -107,6 +106,28 @@ impl Device {
             Device::Off(_) => unreachable!(),
             Device::On(core) => core.act(alloc, row.lane, row.step, call),
         }
+    }
+}
+
+/// Boots from the rows of a world that can be booted, so that none of them is refused.
+fn boot_stored<M: Mounter>(
+    alloc: Global,
+    rows: Rows,
+    order: &BootOrder,
+    mounter: &M,
+) -> Result<(Core, BootReply), AllocError>
+    requires can { (w : World) × (IsStored rows w × CanBoot w order.now) }
+    requires alone { order.now.observers ≡ [] }
+    ensures reply { (w : World) → IsStored rows w → CanBoot w order.now
+        → IfOk result (λ up. up.1 ≡ boot_reply w order.now (M.mounting mounter.now)) }
+    ensures stands { (w : World) → IsStored rows w → CanBoot w order.now
+        → IfOk result (λ up. StandsFor up.0.rows up.0.tables (boot_world w order.now (M.mounting mounter.now))) }
+{
+    known(order);
+    match Core::boot(alloc, rows, order, mounter) {
+        Ok(up) => Ok(up),
+        Err(Why::Fault(_)) => unreachable!(),
+        Err(Why::NoMemory) => Err(AllocError),
     }
 }
 

@@ -30,6 +30,7 @@ impl Run {
         script: &Script,
     ) -> Result<(), PutFailed>
         requires playable { IsPlayable script.now }
+        requires few { length script.now.boots < 4000000000 }
         requires orders { HasOrders script.now }
         requires device { IsDeviceOf self.old.device (empty_world script.now.scale) }
         requires turns { self.old.turns.items ≡ [] }

@@ -16,6 +16,7 @@ use Rattle.apex_base.specs.Results.{◌>>=◌}
 use Rattle.apex_world.specs.declared.calls.Call.{Call}
 use Rattle.apex_world.specs.declared.calls.Call.TheVariants as calls
 use Rattle.apex_world.specs.declared.calls.Image.{Image}
+use Rattle.apex_world.specs.declared.script.Script.{Script}
 use Rattle.apex_world.specs.declared.script.ScriptBoot.{ScriptBoot}
 use Rattle.apex_world.specs.declared.script.Segment.{Segment}
 use Rattle.apex_world.specs.Playable.{IsBuilt, IsPlayableLane, IsPlayableSegment, IsPlayableBoot, IsPlayable}
@@ -266,3 +267,27 @@ by_length bytes true e =
 pub script_playable : (bytes : List ℕ) → IfOk (script_of bytes) IsPlayable
 unfolding script_of
 script_playable bytes = by_length bytes _ refl
+
+-- And it has fewer boots than a device can have
+
+abbrev pub HasFewBoots : Script → Type 0
+HasFewBoots script = length script.boots < 4000000000
+
+finished_few : (d : Draft) (scale : Option Scale) (block : Option Block) → IsSmallDraft 4000000000 d
+    → IfOk (finished_at d scale block) HasFewBoots
+finished_few d None block p = tt
+finished_few d (Some scale) (Some block) p = tt
+finished_few d (Some scale) None p = p.count
+
+few_by_length : (bytes : List ℕ) (b : Bool) → nat_le (length bytes) 16777216 ≡ b
+    → IfOk (cond b (lines_read 1 start (lines bytes) >>= finished) (Err (Bad 0 TooLong))) HasFewBoots
+few_by_length bytes false e = tt
+few_by_length bytes true e =
+    let few : 1 + length (lines bytes) ≤ 4000000000 = omega (arith, few_lines bytes, leb-true _ _ e) in
+    next_ok (lines_read 1 start (lines bytes)) finished (IsSmallDraft 4000000000) HasFewBoots
+    (lines_small 4000000000 1 1 start (lines bytes) few start_small)
+    (λ d p. finished_few d d.scale d.block p)
+
+pub script_has_few_boots : (bytes : List ℕ) → IfOk (script_of bytes) HasFewBoots
+unfolding script_of
+script_has_few_boots bytes = few_by_length bytes _ refl

@@ -1,5 +1,5 @@
 //! The script that bytes spell, or their first bad line.
-ghost use Rattle.std.specs.Prelude.{◌≡◌, ◌≤◌, length, IfOk};
+ghost use Rattle.std.specs.Prelude.{◌≡◌, ◌≤◌, ◌<◌, length, IfOk};
 ghost use Rattle.std.specs.Str.Lines.{strip_carriage_return, lines};
 ghost use Rattle.apex_world.specs.Orders.{HasOrders};
 ghost use Rattle.apex_world.specs.Playable.{IsPlayable};
@@ -26,6 +26,9 @@ pub fn read_script(alloc: Global, bytes: &[u8]) -> Result<Script, ScriptWhy>
 
     // Boots and steps of a script can be numbered, since it isn't long, and a segment has each lane number once.
     ensures playable { IfOk result IsPlayable }
+
+    // A script is too short for as many boots as a device can have.
+    ensures few_boots { IfOk result (λ script. length script.boots < 4000000000) }
 
     // Each boot is at the script's scale, its order is as a boot asks, and it has 1 to 64 workers.
     ensures orders { IfOk result HasOrders }
