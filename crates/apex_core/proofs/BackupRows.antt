@@ -1,13 +1,11 @@
 -- What the name of a session held before it, as its row says. Callers want `backups_are`.
-use Rattle.std.proofs.Common.{◌≡◌, ℕ, Bool, true, false, ◌&&◌, eqb, eqb-true, List, [], ◌∷◌, find, Option, Some, sym, ap}
-use Rattle.std.proofs.Common.{◌∙◌, refl, inl, inr}
+use Rattle.std.proofs.Common.{◌≡◌, ℕ, Bool, true, false, ◌&&◌, eqb, eqb-true, List, [], ◌∷◌, find, Some, sym, ap}
+use Rattle.std.proofs.Common.{◌∙◌, refl, inl}
 use Rattle.std.specs.FinMap as fin
-use Rattle.std.specs.Prelude.{option_and_then}
 use Rattle.std.specs.Option.{option_map}
 use Rattle.std.proofs.lemmas.Bool.{false≢true, and_parts, eq-eqb}
 use Rattle.apex_base.specs.declared.records.Part.{Part}
 use Rattle.apex_base.specs.declared.records.Record.{Record}
-use Rattle.apex_base.specs.declared.records.Target.{Target}
 use Rattle.apex_base.specs.Held.{is_undoable, before}
 use Rattle.apex_base.specs.Keys.{BackupOf, key_text}
 use Rattle.apex_base.specs.Members.{In}
@@ -24,7 +22,7 @@ use Rattle.apex_world.proofs.KeptLemmas.{names_own}
 use Rattle.apex_world.proofs.StateFacts.{undoable_unfinished}
 use Rattle.apex_world.proofs.OpenedSessions.{one_session}
 use Rattle.apex_world.proofs.WorldRows.{backup_at}
-use Rattle.apex_core.specs.Ending.{held_before, spelled, read_target}
+use Rattle.apex_core.specs.Ending.{spelled, read_target}
 use Rattle.apex_core.specs.Taken.{first_of}
 use Rattle.apex_core.proofs.GivenUp.{held_target_of}
 

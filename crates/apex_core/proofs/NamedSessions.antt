@@ -1,6 +1,6 @@
 -- Sessions by names, one name after another. Callers want `room_put`, `more_room`, `entered`, `added_first`,
 -- `added_again`, `given_up`, `kept_on` and `found_more`.
-use Rattle.std.proofs.Common.{◌≡◌, ℕ, ◌+◌, ◌-◌, ◌<◌, ◌≤◌, arith, drop, Bool, true, false, cond, ◌&&◌, ◌||◌, ◌==◌, List, [], ◌∷◌, ◌++◌, find, take}
+use Rattle.std.proofs.Common.{◌≡◌, ℕ, ◌+◌, ◌-◌, ◌<◌, ◌≤◌, arith, drop, Bool, true, false, cond, ◌&&◌, ◌||◌, List, [], ◌∷◌, ◌++◌, find, take}
 use Rattle.std.proofs.Common.{get_or, length, Option, Some, None, is_some, Result, Ok, Err, sym, ap, ◌∙◌, refl}
 use Rattle.std.specs.BTreeMap as tree
 use Rattle.std.specs.Cmp.Lexicographic.{slice_cmp}

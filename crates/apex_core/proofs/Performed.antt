@@ -1,6 +1,6 @@
 -- What a call leaves that was judged and done. Callers want `weighs`,
 -- `small_now`, `small_next`, `weighs_next`, `stands_next`, `stands_same` and `stands_quiet`.
-use Rattle.std.proofs.Common.{◌≡◌, ◌≤◌, ◌<◌, ◌^◌, ℕ, [], Some, sym, ap, subst, ◌∙◌, refl, arith}
+use Rattle.std.proofs.Common.{◌≡◌, ◌≤◌, ◌<◌, ◌^◌, ℕ, [], Some, Result, Ok, Err, sym, ap, subst, ◌∙◌, refl, arith, OnErr}
 use Rattle.apex_base.specs.declared.numbers.Scale.{Scale}
 use Rattle.apex_base.specs.declared.numbers.Scale.TheVariants.{Small, Standard}
 use Rattle.apex_base.specs.Keys.{RowMap}

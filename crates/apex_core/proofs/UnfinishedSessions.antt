@@ -1,7 +1,7 @@
 -- Which session is unfinished and has a name, once one session moved or is new. Callers want `left_moved` and
 -- `entered_left`.
-use Rattle.std.proofs.Common.{◌≡◌, ◌≢◌, ℕ, Bool, true, false, cond, ◌&&◌, ◌==◌, List, [], ◌∷◌, find, Option, Some, None, sym}
-use Rattle.std.proofs.Common.{ap, subst, ◌∙◌, refl, inl, inr, eqb, eqb-true, is_some}
+use Rattle.std.proofs.Common.{◌≡◌, ℕ, Bool, true, false, cond, ◌&&◌, List, [], ◌∷◌, find, Option, Some, None, sym}
+use Rattle.std.proofs.Common.{ap, subst, ◌∙◌, refl, inl, inr, eqb, eqb-true}
 use Rattle.std.specs.Prelude.{not}
 use Rattle.std.specs.List.{list_any}
 use Rattle.std.specs.Option.{option_map}

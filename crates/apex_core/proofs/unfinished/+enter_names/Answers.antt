@@ -1,14 +1,8 @@
-use Rattle.std.proofs.Common.{◌≡◌, ℕ, ◌-◌, List, Option, Some, None, Bool, take, drop, length, cond, is_some, sym, ap, ◌∙◌, refl, rules, subst}
-use Rattle.std.specs.BTreeMap as tree
-use Rattle.std.specs.Cmp.Lexicographic.{slice_cmp}
-use Rattle.std.specs.Option.{option_or}
-use Rattle.std.specs.Ordering.{nat_cmp}
-use Rattle.apex_base.specs.declared.numbers.SessionId.{SessionId}
+use Rattle.std.proofs.Common.{◌-◌, List, Some, take, drop, length, cond, sym, ap, ◌∙◌, rules, subst}
 use Rattle.apex_base.specs.declared.records.Part.{Part}
-use Rattle.apex_base.specs.declared.records.Record.{Record}
-use Rattle.apex_core.specs.Unfinished.{ByName, under, has_name, without, is_session, HaveRoom, unfinished_with}
-use Rattle.apex_core.proofs.NamedSessions.{room_put, more_rooms, entered, added_first, added_again, given_up, kept_on, rest_is}
-use Rattle.apex_core.proofs.NamedSessions.{found_more, must_be, then_on, none_there, Puts, test}
+use Rattle.apex_core.specs.Unfinished.{under, has_name, HaveRoom}
+use Rattle.apex_core.proofs.NamedSessions.{more_rooms, entered, rest_is}
+use Rattle.apex_core.proofs.NamedSessions.{must_be, none_there}
 use Rattle.apex_core.proofs.unfinished.+enter_names.Goals as goal
 
 pub enter_names-requires : goal.enter_names-requires
