@@ -7,7 +7,6 @@ from .breaking import broken
 NAMES = ("a", "b", "B", "a.b", "_", "com.android.media")
 UNKNOWN_NAMES = ("z", "a.", "A")
 LABELS = ("m", "n", "m.2")
-VERSIONS = (1, 2, 2, 3, 3, 3, 4, 4, 5, 6, 9)
 EDGE_IDS = (0, 1073741823, 1073741824, 1073741825, 2147483648, 4294967295)
 MOST_MOMENT = 9007199254740991
 # How far the moments of two boots lie from each other. Five boots of 150000 are just within the ten minutes.
@@ -24,8 +23,10 @@ class Author:
         self.names = dice.sample(NAMES, dice.randint(1, 4))
         self.keys = {name: dice.choice(KEYS) if self.chance(0.3) else None for name in self.names}
         self.preinstalled = []
+        self.greatest = dict.fromkeys(self.names, 1)
         self.labels = []
         self.ids = []
+        self.unfinished = {}
         self.moment = dice.choice((0, 0, 1000, 700000, MOST_MOMENT - 1000000))
         self.stride = dice.choice(STRIDES)
 
@@ -35,20 +36,26 @@ class Author:
     def image(self):
         self.lines.append(f"image {self.dice.choice(('P', 'S1B2', '~!', 'x' * 64))}")
         for name in self.names:
-            if self.chance(0.85):
+            if self.chance(0.93):
                 self.pre(name)
 
     def pre(self, name):
         """A preinstalled module: mostly of the short form, else of a block, sound or not."""
         if name in self.preinstalled:
             return
-        version = self.dice.choice(VERSIONS)
+        version = self.version(name)
         if self.keys[name] is None and self.chance(0.75):
             self.lines.append(f"pre {name}@{version}")
         else:
             flaws = [self.dice.choice(FLAWS[2:])] if self.chance(0.3) else []
             self.lines.append(f"pre ${self.block(name, version, self.keys[name], flaws)}")
         self.preinstalled.append(name)
+
+    def version(self, name):
+        """A version near the greatest one that was written for a name, mostly not below it."""
+        version = max(1, self.greatest[name] + self.dice.choice((-2, -1, 0, 0, 0, 0, 1, 1, 1, 2)))
+        self.greatest[name] = max(self.greatest[name], version)
+        return version
 
     def block(self, name, version, key, flaws):
         label = self.dice.choice(LABELS)
@@ -64,14 +71,33 @@ class Author:
         self.lines.append(f"boot {self.moment} {self.dice.choice((1, 1, 2, 4, 64))}")
 
     def submit(self):
+        name = self.dice.choice(self.names)
+        if name in self.unfinished and self.chance(0.8):
+            self.finish(name)
+        part, faulty = self.part(name)
         id = self.fresh_id()
-        self.lines.append(f"submit {id} plain {self.part()}")
-        if self.chance(0.7):
+        self.lines.append(f"submit {id} plain {part}")
+        accepted = not faulty and name in self.preinstalled and name not in self.unfinished
+        if accepted:
+            self.ids.append(id)
+            self.unfinished[name] = id
+        if self.chance(0.7 if accepted else 0.1):
             self.lines.append(f"ready {id}")
             if self.chance(0.4):
                 self.boot()
-                if self.chance(0.6):
+                if self.chance(0.5):
                     self.lines.append(f"success {self.later()} {id}")
+
+    def finish(self, name):
+        """Ends the session of a name, so that another may be submitted."""
+        id = self.unfinished.pop(name)
+        if self.chance(0.3):
+            self.lines.append(f"abort {id}")
+            return
+        if self.chance(0.8):
+            self.lines.append(f"ready {id}")
+        self.boot()
+        self.lines.append(f"success {self.later()} {id}")
 
     def fresh_id(self):
         """The id of a submit: mostly one that isn't taken."""
@@ -79,9 +105,7 @@ class Author:
             return self.dice.choice(self.ids)
         if self.chance(0.04):
             return self.dice.choice(EDGE_IDS)
-        id = self.dice.randint(1, 40) if self.chance(0.3) else len(self.ids) + 100
-        self.ids.append(id)
-        return id
+        return self.dice.randint(1, 40) if self.chance(0.3) else len(self.ids) + 100
 
     def some_id(self):
         """The id of another call: mostly that of a recent submit."""
@@ -89,20 +113,20 @@ class Author:
             return self.dice.choice((*EDGE_IDS, 7))
         return self.dice.choice(self.ids[-3:] if self.chance(0.7) else self.ids)
 
-    def part(self):
-        name = self.dice.choice(self.names)
-        version = self.dice.choice(VERSIONS)
-        if self.labels and self.chance(0.12):
-            return "$" + self.dice.choice(self.labels)
-        if self.chance(0.04):
-            return f"{self.dice.choice(UNKNOWN_NAMES)}@{version}"
-        if self.chance(0.02):
-            return f"{name}@{modules.MOST_VERSION - self.dice.randint(0, 1)}"
+    def part(self, name):
+        """A part of a submit, mostly of this name, and whether it is likely to be refused for itself."""
+        version = self.version(name)
+        if self.labels and self.chance(0.1):
+            return "$" + self.dice.choice(self.labels), True
+        if self.chance(0.03):
+            return f"{self.dice.choice(UNKNOWN_NAMES)}@{version}", True
+        if self.chance(0.01):
+            return f"{name}@{modules.MOST_VERSION - self.dice.randint(0, 1)}", False
         if self.chance(0.75 if self.keys[name] is None else 0.1):
-            return f"{name}@{version}"
-        key = self.keys[name] if self.chance(0.75) else self.dice.choice(KEYS)
+            return f"{name}@{version}", self.keys[name] is not None
+        key = self.keys[name] if self.chance(0.9) else self.dice.choice(KEYS)
         flaws = self.dice.sample(FLAWS, self.dice.choice((1, 1, 1, 2, 3))) if self.chance(0.4) else []
-        return "$" + self.block(name, version, key, flaws)
+        return "$" + self.block(name, version, key, flaws), bool(flaws) or key != self.keys[name]
 
     def later(self):
         """The moment of a success."""
@@ -110,7 +134,7 @@ class Author:
 
     def other_call(self):
         id = self.some_id()
-        word = self.dice.choice(("ready", "ready", "abort", "success", "success", "state", "state"))
+        word = self.dice.choice(("ready", "ready", "abort", "success", "success", "state", "state", "state"))
         self.lines.append(f"success {self.later()} {id}" if word == "success" else f"{word} {id}")
 
     def pass_over(self):
@@ -156,14 +180,15 @@ def hurried(dice):
 def crowded(dice):
     """More sessions than a small device may have."""
     author = Author(dice, "small")
+    author.keys = dict.fromkeys(author.names)
     author.image()
     author.boot()
     for id in range(200, 200 + dice.randint(31, 36)):
         name = dice.choice(author.names)
-        author.lines.append(f"submit {id} plain {name}@{dice.choice((9, 9, 9, 10))}")
-        if author.chance(0.95):
+        author.lines.append(f"submit {id} plain {name}@{author.version(name) + 9}")
+        if author.chance(0.8):
             author.lines.append(f"abort {id}")
-        elif author.chance(0.5):
+        elif author.chance(0.9):
             author.lines.append(f"ready {id}")
             author.boot()
             author.lines.append(f"success {author.later()} {id}")
@@ -202,16 +227,16 @@ def wide(dice):
     author = Author(dice, scale)
     author.lines.append("image P")
     count = most + dice.choice((-1, 0, 0, 1))
-    author.lines += [f"pre n{number}@{dice.choice(VERSIONS)}" for number in range(count)]
+    author.lines += [f"pre n{number}@{dice.choice((1, 3, 9))}" for number in range(count)]
     author.boot()
     author.lines += ["module m", 'text apex_manifest.json {"name":"n0","version":9}']
     author.lines += [f"text f{number} {number}" for number in range(62 + dice.choice((-1, 0, 0, 0, 1)))]
     author.lines += [*dice.choice((["seal"], ["seal", "text f0 more"], ["text f0 more", "seal"])), "done"]
     author.lines += ["submit 1 plain $m", "ready 1"]
-    author.lines += [f"submit {id} plain n{id}@{dice.choice(VERSIONS)}" for id in range(2, most + 3)]
-    author.lines += [f"ready {id}" for id in range(2, most + 3) if author.chance(0.8)]
+    author.lines += [f"submit {id} plain n{id}@{dice.choice((8, 9, 9, 10))}" for id in range(2, most + 2)]
+    author.lines += [f"ready {id}" for id in range(2, most + 2) if author.chance(0.8)]
     author.boot()
-    author.lines += [f"success {author.later()} {id}" for id in range(most + 3) if author.chance(0.8)]
+    author.lines += [f"success {author.later()} {id}" for id in range(most + 2) if author.chance(0.5)]
     author.boot()
     return author.lines
 
@@ -249,7 +274,7 @@ def too_long(dice):
 
 
 KINDS = {ordinary: 600, hurried: 150, crowded: 90, heavy: 100, wide: 55, rare: 5}
-FAULTY_SHARE = 0.05
+FAULTY_SHARE = 0.07
 
 
 def write_script(dice):
