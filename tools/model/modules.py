@@ -8,7 +8,7 @@ import json
 import math
 import re
 from dataclasses import dataclass
-from functools import cached_property
+from functools import lru_cache
 
 MANIFEST = "apex_manifest.json"
 KEY = "apex_pubkey"
@@ -171,34 +171,21 @@ def check_listing(files):
 # Whole modules
 
 
-@dataclass(eq=False)
 class Module:
-    """A module as it stands; its files never change."""
+    """A module as it stands; its files never change.
 
-    files: dict
+    `name` and `version` are None where the manifest doesn't read. `fault` is the first fault in words, and None where
+    the module is sound.
+    """
 
-    @cached_property
-    def fault(self):
-        """The first fault in words, or None where the module is sound."""
+    def __init__(self, files):
+        self.files = files
+        self.name = self.version = self.fault = None
         try:
-            manifest_of(self.files)
-            check_listing(self.files)
-        except Fault as found:
-            return str(found)
-        return None
-
-    @cached_property
-    def manifest(self):
-        """The name and the version; a Fault where the manifest doesn't read."""
-        return manifest_of(self.files)
-
-    @property
-    def name(self):
-        return self.manifest[0]
-
-    @property
-    def version(self):
-        return self.manifest[1]
+            self.name, self.version = manifest_of(files)
+            check_listing(files)
+        except Fault as fault:
+            self.fault = str(fault)
 
     @property
     def key(self):
@@ -215,6 +202,7 @@ def sealed(files):
     return {**files, LISTING: listing_of(files)}
 
 
+@lru_cache
 def short_form(name, version):
     """The module that `NAME@VERSION` stands for."""
     manifest = f'{{"name":"{name}","version":{version}}}'

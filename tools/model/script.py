@@ -204,15 +204,13 @@ class Reader:
 
     def line_pre(self, words):
         module = self.module_of(read_part(words, 2), 2)
-        try:
-            name = module.name
-        except modules.Fault as fault:
-            raise Bad(f"bad-module {fault}") from None
-        if name in self.image:
+        if module.name is None:
+            raise Bad(f"bad-module {module.fault}")
+        if module.name in self.image:
             raise Bad("twice")
         if len(self.image) == self.scale.image_modules:
             raise Bad("full")
-        self.image[name] = module
+        self.image[module.name] = module
 
     def line_observer(self, words):
         name = read_name(words, 2)
