@@ -177,6 +177,22 @@ def hurried(dice):
     return author.lines
 
 
+def judged(dice):
+    """Many modules, most of them faulty in one way or another."""
+    author = Author(dice, "standard")
+    author.image()
+    author.boot()
+    for id in range(1, dice.randint(8, 24)):
+        name = dice.choice(author.names)
+        flaws = dice.sample(FLAWS, dice.choice((0, 1, 1, 1, 2)))
+        label = author.block(name, author.version(name), author.keys[name], flaws)
+        author.lines += [f"submit {id} plain ${label}", f"abort {id}"]
+    if author.chance(0.1):
+        author.lines.append(f"pre ${dice.choice(author.labels)}")
+    author.boot()
+    return author.lines
+
+
 def crowded(dice):
     """More sessions than a small device may have."""
     author = Author(dice, "small")
@@ -273,7 +289,7 @@ def too_long(dice):
     return ["scale small", filler]
 
 
-KINDS = {ordinary: 600, hurried: 150, crowded: 90, heavy: 100, wide: 55, rare: 5}
+KINDS = {ordinary: 540, hurried: 150, judged: 80, crowded: 80, heavy: 95, wide: 50, rare: 5}
 FAULTY_SHARE = 0.07
 
 

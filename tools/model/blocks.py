@@ -144,6 +144,7 @@ def spoil_listing(writer):
         right[1:],
         b"".join(reversed(lines)),
         right + b"0" * 64 + b" apex_digests\n",
+        b"".join(sorted([*lines, b"0" * 64 + b" apex_digests\n"], key=lambda line: line[65:])),
         right + b"0" * 64 + b" zz/../zz\n",
         right + b"0" * 64 + b" zz//zz\n",
         right + b"0" * 64 + b" zzz\n",

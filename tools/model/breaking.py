@@ -44,6 +44,11 @@ def byte_added(dice, lines):
     return lines
 
 
+def returns_added(dice, lines):
+    lines[dice.randrange(len(lines))] += dice.choice(("\r", "\r\r"))
+    return lines
+
+
 def word_dropped(dice, lines):
     at = dice.randrange(len(lines))
     words = lines[at].split(" ")
@@ -78,4 +83,4 @@ def end_dropped(dice, lines):
     return lines[: dice.randrange(len(lines))]
 
 
-OTHER_CHANGES = (byte_added, word_dropped, word_added, line_dropped, line_moved, line_repeated, end_dropped)
+OTHER_CHANGES = (byte_added, returns_added, word_dropped, word_added, line_dropped, line_moved, line_repeated, end_dropped)
