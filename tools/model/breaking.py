@@ -20,7 +20,7 @@ BYTES = ("\t", "\x00", "\x1f", "\x7f", "\x80", "\xff", "\r", "\x0b")
 
 
 def broken(dice, lines):
-    change = dice.choice((word_changed, word_changed, line_added, line_added, *OTHER_CHANGES))
+    (change,) = dice.choices(list(CHANGES), CHANGES.values())
     return change(dice, list(lines))
 
 
@@ -28,6 +28,19 @@ def word_changed(dice, lines):
     at = dice.randrange(len(lines))
     words = lines[at].split(" ")
     words[dice.randrange(len(words))] = dice.choice(WORDS)
+    lines[at] = " ".join(words)
+    return lines
+
+
+def word_bent(dice, lines):
+    """Spells one word in another way, mostly one that isn't allowed."""
+    at = dice.randrange(len(lines))
+    words = lines[at].split(" ")
+    place = dice.randrange(len(words))
+    word = words[place]
+    longer = ("0" + word, "+" + word, "-" + word, "$" + word, word + ".", word + "0", word + "@1", word * 2)
+    other = (word.swapcase(), word[1:], word[:-1], word.replace("@", "@0"), word.replace("@", "@@"))
+    words[place] = dice.choice(longer + other)
     lines[at] = " ".join(words)
     return lines
 
@@ -83,4 +96,8 @@ def end_dropped(dice, lines):
     return lines[: dice.randrange(len(lines))]
 
 
-OTHER_CHANGES = (byte_added, returns_added, word_dropped, word_added, line_dropped, line_moved, line_repeated, end_dropped)
+CHANGES = {
+    **dict.fromkeys((word_changed, word_bent, line_added), 3),
+    **dict.fromkeys((byte_added, returns_added, word_dropped, word_added), 1),
+    **dict.fromkeys((line_dropped, line_moved, line_repeated, end_dropped), 1),
+}
