@@ -113,11 +113,10 @@ const TIE_TEXT: &str =
 
 #[test]
 fn a_core_leaves_the_row_of_what_a_name_holds(rt: HostRuntime) -> Result<(), Fail> {
-    let script = read_script(rt.alloc(), TIE.as_bytes()).or(Err("a script"))?;
+    let script = read_script(rt.alloc(), TIE.as_bytes())?;
     let mut sink = MemSink::with_room(rt.alloc(), 4096, one(rt.alloc(), 0)?)?;
     let mut run = Run::start(rt.alloc());
-    run.play_script(rt.alloc(), &mut sink, &script)
-        .or(Err("a run to its end"))?;
+    run.play_script(rt.alloc(), &mut sink, &script)?;
     assert_eq!(rt; sink.bytes(), TIE_TEXT.as_bytes());
     let Device::On(core) = run.device else {
         return Err("a device that is on".into());
