@@ -37,7 +37,7 @@ impl Device {
     }
 
     /// The rows alone.
-    fn into_rows(self) -> Rows
+    pub(crate) fn into_rows(self) -> Rows
         ensures { (w : World) → IsDeviceOf self w → IsStored result w }
     {
         match self {
