@@ -2,6 +2,7 @@ pub mod Acting
 pub mod Answers
 pub mod Causes
 pub mod Commit
+pub mod Forms
 pub mod Held
 pub mod Keys
 pub mod Members

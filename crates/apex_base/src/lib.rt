@@ -2,6 +2,7 @@
 #![tactic(auto)]
 
 mod boxed;
+mod bytes;
 mod cut;
 mod fault;
 mod laws;
@@ -13,6 +14,7 @@ mod numbers;
 mod outside;
 mod padded;
 mod path;
+mod reading;
 mod records;
 mod refusal;
 mod sessions;
@@ -24,6 +26,7 @@ mod text;
 mod why;
 
 pub use boxed::Boxed;
+pub use bytes::Bytes;
 pub use cut::{cut_first, position_in_word, position_of};
 pub use fault::ModuleFault;
 pub use laws::{no_bytes_spell_two_records, no_two_things_have_one_key, reading_undoes_spelling};
@@ -34,8 +37,9 @@ pub use moves::{Move, moved, rollback_after};
 pub use numbers::{Millis, Scale, SessionId, Version};
 pub use outside::{Failed, Gate, Mounter, OpenGate, Sink, Source};
 pub use path::FilePath;
+pub use reading::{byte_at, bytes_at, short_at, u32_at, u64_at};
 pub use records::{
-    Bytes, Case, Cause, ChildList, Kind, Level, Part, PartList, Pick, Place, Reason, Record,
+    Case, Cause, ChildList, Kind, Level, Part, PartList, Pick, Place, Reason, Record,
     RollbackState, State, Target,
 };
 pub use refusal::Refusal;

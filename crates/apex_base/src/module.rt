@@ -4,7 +4,7 @@ ghost use Rattle.std.specs.FinMap as fin;
 ghost use Rattle.apex_base.specs.Modules.{IsModule, module_weight, put_fault, HoldsModule};
 ghost use Rattle.apex_base.specs.declared.module.PutWhy.TheVariants.{NoMemory};
 
-use crate::{Bytes, FilePath, Listed};
+use crate::{Bytes, FilePath};
 use std::alloc::Global;
 use std::collections::BTreeMap;
 use std::marker::Model;
@@ -86,17 +86,17 @@ impl Module {
 
     /// Writes a file, or replaces it. The error is `Files` if 64 other files are there, otherwise `Large` if the content
     /// has more than 1048576 bytes, otherwise `NoMemory`. After an error the module is as before.
-    pub fn put(&mut self, path: FilePath, bytes: Vec<u8>) -> Result<(), PutWhy>
-        ensures put { OnOk result (self.new ≡ fin.insert self.old path bytes.items) }
-        ensures fits { IsOk result → put_fault self.old path bytes.items ≡ None }
-        ensures refused { IfErr result (λ why. why ≢ NoMemory → put_fault self.old path bytes.items ≡ Some why) }
+    pub fn put(&mut self, path: FilePath, bytes: Bytes) -> Result<(), PutWhy>
+        ensures put { OnOk result (self.new ≡ fin.insert self.old path bytes) }
+        ensures fits { IsOk result → put_fault self.old path bytes ≡ None }
+        ensures refused { IfErr result (λ why. why ≢ NoMemory → put_fault self.old path bytes ≡ Some why) }
         ensures unchanged { OnErr result (self.new ≡ self.old) }
     {
         path.known();
-        if let Some(why) = self.put_fault(&path, &bytes) {
+        if let Some(why) = self.put_fault(&path, bytes.as_slice()) {
             return Err(why);
         }
-        match self.files.insert(path, Listed::of(bytes)) {
+        match self.files.insert(path, bytes) {
             Ok(_) => Ok(()),
             Err(_) => Err(PutWhy::NoMemory),
         }

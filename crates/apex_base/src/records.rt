@@ -164,9 +164,6 @@ pub type ChildList = Listed<SessionId>;
 /// Parts, seen as a list.
 pub type PartList = Listed<Part>;
 
-/// Bytes of any content, seen as a list.
-pub type Bytes = Listed<u8>;
-
 /// What a boot chose for a name: a version and its place, or None if the name is missing.
 #[derive(Clone, Copy)]
 pub struct Pick {

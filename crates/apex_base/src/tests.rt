@@ -1,6 +1,6 @@
 //! What no clause says: that a call with memory succeeds, what counts as a name, and which call fails.
 use crate::{
-    Failed, FilePath, Listed, MemSink, MemSource, Module, ModuleFault, Name, Print, PutWhy,
+    Bytes, Failed, FilePath, Listed, MemSink, MemSource, Module, ModuleFault, Name, Print, PutWhy,
     SessionId, Shared, Sink, Source,
 };
 use std::alloc::Global;
@@ -94,8 +94,20 @@ fn paths_are_segments_joined_by_slashes(rt: HostRuntime) {
     }
 }
 
-fn zeros(alloc: Global, len: usize) -> Result<Vec<u8>, Fail> {
-    Ok(vec![in alloc; 0; len]?)
+fn zeros(alloc: Global, len: usize) -> Result<Bytes, Fail> {
+    Ok(Bytes::shared(alloc, vec![in alloc; 0; len]?)?)
+}
+
+#[test]
+fn bytes_are_the_same_for_each_owner(rt: HostRuntime) -> Result<(), Fail> {
+    for len in [0, 1, 255, 256, 1048576] {
+        let bytes = zeros(rt.alloc(), len)?;
+        let other = bytes.share(rt.alloc())?;
+        assert_eq!(rt; other.as_slice().len(), len);
+        assert_eq!(rt; bytes.as_slice().len(), len);
+    }
+    assert!(rt; Bytes::new(rt.alloc()).as_slice().is_empty());
+    Ok(())
 }
 
 #[test]

@@ -1,4 +1,5 @@
--- What an abort of a simple world judges. Callers want `abort_done`, `abort_ascends` and `abort_numbered`.
+-- What an abort of a simple world judges. Callers want `abort_done`, `abort_numbered`, `own_target` and
+-- `record_below`.
 use Rattle.std.proofs.Common.{◌≡◌, ℕ, Bool, true, false, cond, eqb, eq-eqb, List, [], ◌∷◌, Some, None, sym, ap, subst}
 use Rattle.std.proofs.Common.{◌∙◌, refl, inl, inr}
 use Rattle.std.specs.Cmp.Lexicographic.{slice_cmp}
@@ -16,7 +17,6 @@ use Rattle.apex_base.specs.Commit.{is_waiting}
 use Rattle.apex_base.specs.Held.{is_module}
 use Rattle.apex_base.specs.Keys.{Key, Boots, RecordOf, ActiveOf, BackupOf, FileOf, DataOf, SnapshotOf, PreRestoreOf}
 use Rattle.apex_base.specs.Keys.{WatchOf, IsKey, RowMap, key_text}
-use Rattle.apex_base.specs.declared.records.Target.TheVariants as targets
 use Rattle.session_record.specs.Room.{HasPartNumber}
 use Rattle.apex_base.proofs.MemberLemmas.{each_in}
 use Rattle.apex_world.specs.Lawful.{Lawful}
@@ -48,6 +48,7 @@ use Rattle.apex_core.specs.Unfinished.{unfinished_with}
 use Rattle.apex_core.specs.Moving.{Moves}
 use Rattle.apex_core.specs.Taken.{files_taken, first_of}
 use Rattle.apex_core.proofs.Batches.{IsRowOf}
+use Rattle.apex_core.proofs.Judgements.{numbered}
 use Rattle.apex_core.proofs.TakenBatches.{of_module, files_lead}
 use Rattle.apex_core.proofs.TakenFiles.{IsBelowFiles}
 use Rattle.apex_core.proofs.Moved.{Moving, left_by, no_record, one_target, one_part, is_found, is_among, record_is}
@@ -71,10 +72,6 @@ waits_if state.Aborted b e = absurd (cc)
 target_is : (ps : List Part) → ((p : Part) → In p ps → IsPart p) → IsTarget (first_of (λ p. p.target) ps)
 target_is [] all = tt
 target_is (p ∷ ps) all = (all p (inl refl)).target
-
-pub numbered : (t : Target) → IsTarget t → HasPartNumber t
-numbered targets.Preinstalled i = tt
-numbered (targets.Module session part version) i = i.1
 
 plain_takes : (k : Kind) (id : SessionId) → k ≡ Plain → takes_back k id ≡ false
 plain_takes k id e = ap (λ (k : Kind). takes_back k id) e

@@ -1,6 +1,6 @@
 -- The rows of batches, and what they lead to. Callers want `batch_value`, `batch_skips`, `in_batch_row`,
 -- `in_batch_append` and `ascend_append`.
-use Rattle.std.proofs.Common.{◌≡◌, ◌||◌, ℕ, Bool, true, false, List, [], ◌∷◌, ◌++◌, Option, Some, None, sym, ap, ◌∙◌}
+use Rattle.std.proofs.Common.{◌≡◌, ◌||◌, ℕ, true, false, List, [], ◌∷◌, ◌++◌, sym, ap, ◌∙◌}
 use Rattle.std.proofs.Common.{refl, inl, inr}
 use Rattle.std.specs.List.{AllByRecursion}
 use Rattle.std.specs.List.Sorted.{IsStrictlySortedBy}
@@ -8,39 +8,29 @@ use Rattle.std.specs.Cmp.Lexicographic.{slice_cmp}
 use Rattle.std.specs.Ordering.{nat_cmp}
 use Rattle.std.specs.declared.cmp.Ordering.TheVariants.{Less}
 use Rattle.std.specs.FinMap as fin
-use Rattle.std.proofs.lemmas.Bool.{true≢false}
+use Rattle.std.proofs.lemmas.Bool.{or_parts}
+use Rattle.std.proofs.Math.Bool.{or-true, or_assoc}
 use Rattle.apex_base.specs.Members.{In}
 use Rattle.row_codec.specs.declared.batch.Row.{Row}
 use Rattle.row_codec.specs.Batch.{keys_of}
 use Rattle.row_map.specs.Rows.{RowMap, changed, changed_at}
 use Rattle.row_map.specs.Room.{same_key, in_batch}
-use Rattle.row_map.proofs.Maps.{at_insert, at_remove, itself, turned, above, changed_other}
+use Rattle.row_map.proofs.Maps.{itself, turned, above, changed_other}
+use Rattle.row_opening.proofs.SettledChanges.{changed_here}
 
 -- Keys in a batch
-
-pub or_parts : (a b : Bool) → (a || b) ≡ false → (a ≡ false) × (b ≡ false)
-or_parts true b e = absurd (true≢false e)
-or_parts false b e = (refl, e)
-
-or_true : (a : Bool) → (a || true) ≡ true
-or_true true = refl
-or_true false = refl
-
-or_assoc : (a b c : Bool) → (a || (b || c)) ≡ ((a || b) || c)
-or_assoc true b c = refl
-or_assoc false b c = refl
 
 pub in_batch_row : (row : Row) (rows : List Row) → In row rows → in_batch row.key rows ≡ true
 in_batch_row row [] i = absurd i
 in_batch_row row (r ∷ rs) (inl e) = ap (λ (x : Row). same_key row.key x.key || in_batch row.key rs) e
     ∙ ap (λ b. b || in_batch row.key rs) (itself row.key)
 in_batch_row row (r ∷ rs) (inr i) = ap (λ b. same_key row.key r.key || b) (in_batch_row row rs i)
-    ∙ or_true (same_key row.key r.key)
+    ∙ or-true (same_key row.key r.key)
 
 pub in_batch_append : (q : List ℕ) (xs ys : List Row) → in_batch q (xs ++ ys) ≡ (in_batch q xs || in_batch q ys)
 in_batch_append q [] ys = refl
 in_batch_append q (r ∷ rs) ys = ap (λ b. same_key q r.key || b) (in_batch_append q rs ys)
-    ∙ or_assoc (same_key q r.key) (in_batch q rs) (in_batch q ys)
+    ∙ sym (or_assoc (same_key q r.key) (in_batch q rs) (in_batch q ys))
 
 -- Values
 
@@ -51,10 +41,6 @@ batch_skips [] m q none = refl
 batch_skips (r ∷ rs) m q none =
     let (apart, later) = or_parts (same_key q r.key) (in_batch q rs) none in
     batch_skips rs (changed_at m r.key r.value) q later ∙ changed_other m r.key r.value q apart
-
-changed_here : (m : RowMap) (key : List ℕ) (value : Option (List ℕ)) → fin.get (changed_at m key value) key ≡ value
-changed_here m key None = at_remove m key key ∙ rw (itself key) refl
-changed_here m key (Some value) = at_insert m key value key ∙ rw (itself key) refl
 
 none_above : (key : List ℕ) (rows : List Row) → AllByRecursion (λ q. slice_cmp nat_cmp key q ≡ Less) (keys_of rows)
     → in_batch key rows ≡ false

@@ -11,11 +11,12 @@ use Rattle.row_codec.specs.declared.batch.Row.{Row}
 use Rattle.row_codec.specs.Batch.{keys_of}
 use Rattle.row_map.specs.Rows.{RowMap, changed, changed_at}
 use Rattle.row_map.specs.Room.{same_key, in_batch}
-use Rattle.row_map.proofs.Maps.{same_rows, at_insert, at_remove, key_is, itself, changed_other}
+use Rattle.row_map.proofs.Maps.{same_rows, key_is, changed_other}
 use Rattle.apex_world.specs.Lawful.{Lawful}
 use Rattle.apex_world.specs.Rows.{rows, row_at, row_keys}
 use Rattle.apex_world.specs.World.{World}
 use Rattle.apex_world.proofs.WorldRows.{world_keys, world_row}
+use Rattle.row_opening.proofs.SettledChanges.{changed_here}
 
 -- no row ascends, and so does one
 pub none_ascend : (rows : List Row) → rows ≡ [] → IsStrictlySortedBy (slice_cmp nat_cmp) (keys_of rows)
@@ -25,11 +26,6 @@ none_ascend rows e = rw e tt
 pub one_ascends : (rows : List Row) (row : Row) → rows ≡ row ∷ [] → IsStrictlySortedBy (slice_cmp nat_cmp) (keys_of rows)
 unfolding IsStrictlySortedBy
 one_ascends rows row e = rw e (tt, tt)
-
--- a changed key has its value
-changed_here : (m : RowMap) (key : List ℕ) (value : Option (List ℕ)) → fin.get (changed_at m key value) key ≡ value
-changed_here m key None = at_remove m key key ∙ rw (itself key) refl
-changed_here m key (Some value) = at_insert m key value key ∙ rw (itself key) refl
 
 -- after one change, a key of which the rest says nothing is as in the other map
 step_at : (m n : RowMap) (row : Row) (rest : List Row) (q : List ℕ) (b : Bool) → same_key q row.key ≡ b

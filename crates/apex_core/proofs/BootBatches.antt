@@ -2,7 +2,7 @@
 use Rattle.std.proofs.Common.{◌≡◌, ℕ, ◌+◌, Bool, true, false, cond, eqb, List, [], ◌∷◌, ◌++◌, map, Option, Some, None}
 use Rattle.std.proofs.Common.{sym, ap, subst, ◌∙◌, refl, inl, inr}
 use Rattle.std.specs.Option.{option_map}
-use Rattle.std.proofs.lemmas.Bool.{false≢true, eqb-true}
+use Rattle.std.proofs.lemmas.Bool.{false≢true, eqb-true, or_parts}
 use Rattle.apex_base.specs.declared.numbers.SessionId.{SessionId}
 use Rattle.apex_base.specs.declared.records.Record.{Record}
 use Rattle.apex_base.specs.Keys.{Key, Boots, RecordOf, ActiveOf, BackupOf, FileOf, DataOf, SnapshotOf, PreRestoreOf}
@@ -35,7 +35,7 @@ use Rattle.apex_world.proofs.QuietBoots.{boots_by_rows}
 use Rattle.apex_world.proofs.WorldRows.{record_id, same_id, world_row}
 use Rattle.apex_core.specs.Booted.{record_change, record_changes, boots_change, IsSettling}
 use Rattle.apex_core.proofs.Batches.{IsRowOf, batch_leads}
-use Rattle.apex_core.proofs.BatchRows.{batch_skips, batch_value, in_batch_append, in_batch_row, or_parts}
+use Rattle.apex_core.proofs.BatchRows.{batch_skips, batch_value, in_batch_append, in_batch_row}
 use Rattle.apex_core.proofs.PlainRows.{same_data, same_snapshot, same_pre_restore, same_watch}
 use Rattle.apex_core.proofs.SettledKeys.{IsOfNames, settled_key}
 use Rattle.apex_core.proofs.TurnedSessions.{become_kept, become_rests}

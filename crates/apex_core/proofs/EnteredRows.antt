@@ -1,6 +1,6 @@
 -- The rows of a simple world after a submit of one module: a record's, and those of the module's files. Callers want
 -- `entered_leads`.
-use Rattle.std.proofs.Common.{◌≡◌, ◌≢◌, ℕ, ◌<◌, ◌^◌, zero, suc, Bool, true, false, cond, eqb, ◌&&◌, not, ◌||◌, List}
+use Rattle.std.proofs.Common.{◌≡◌, ◌≢◌, ℕ, ◌<◌, ◌^◌, zero, suc, Bool, true, false, cond, eqb, ◌&&◌, not, List}
 use Rattle.std.proofs.Common.{[], ◌∷◌, Option, Some, None, sym, ap, subst, ◌∙◌, refl, inl, inr, eq-eqb, eqb-true}
 use Rattle.std.specs.Prelude.{option_and_then}
 use Rattle.std.specs.Option.{option_map}
@@ -34,26 +34,16 @@ use Rattle.apex_world.proofs.WorldRows.{same_id, submission_of, world_row}
 use Rattle.package_store.specs.Placed.{file_change}
 use Rattle.row_codec.specs.declared.batch.Row.{Row}
 use Rattle.row_map.specs.Rows.{changed}
-use Rattle.row_map.specs.Room.{same_key, in_batch}
-use Rattle.row_map.proofs.Maps.{itself}
+use Rattle.row_map.specs.Room.{in_batch}
 use Rattle.apex_core.specs.Submitting.{plain_session, submitted_rows}
+use Rattle.apex_core.proofs.BatchRows.{in_batch_row}
 use Rattle.apex_core.proofs.Batches.{IsRowOf, batch_leads}
 use Rattle.apex_core.proofs.NewRows.{active_same, backup_same, still_target}
 
-or_true : (b : Bool) → (b || true) ≡ true
-or_true true = refl
-or_true false = refl
-
--- a row of a batch has a key of the batch
-in_there : (q : List ℕ) (row : Row) (batch : List Row) → In row batch → q ≡ row.key → in_batch q batch ≡ true
-in_there q row [] h same = absurd h
-in_there q row (x ∷ batch) (inl e) same =
-    let here : same_key q x.key ≡ true =
-    ap (same_key q) (ap (λ (r : Row). r.key) e ∙ sym same) ∙ itself q in rw here refl
-in_there q row (x ∷ batch) (inr h) same = rw (in_there q row batch h same) (or_true (same_key q x.key))
-
+-- a key that isn't in a batch is that of none of its rows
 no_other : (q : List ℕ) (row : Row) (batch : List Row) → In row batch → in_batch q batch ≡ false → q ≡ row.key → ⊥
-no_other q row batch h none same = false≢true (sym none ∙ in_there q row batch h same)
+no_other q row batch h none same =
+    false≢true (sym none ∙ ap (λ (k : List ℕ). in_batch k batch) same ∙ in_batch_row row batch h)
 
 -- Plain sessions keep nothing of the past
 

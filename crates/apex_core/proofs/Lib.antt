@@ -22,6 +22,7 @@ pub mod NamedSessions
 pub mod NewRows
 pub mod Performed
 pub mod PlainRows
+pub mod Readies
 pub mod RowRange
 pub mod Search
 pub mod SettledKeys

@@ -1,5 +1,5 @@
 -- What a call leaves that was judged and done. Callers want `weighs`,
--- `small_now`, `small_next`, `weighs_next`, `stands_next`, `stands_same` and `stands_quiet`.
+-- `small_now`, `small_next`, `weighs_next`, `stands_next`, `stands_same`, `stands_quiet` and `by_answer`.
 use Rattle.std.proofs.Common.{◌≡◌, ◌≤◌, ◌<◌, ◌^◌, ℕ, [], Some, Result, Ok, Err, sym, ap, subst, ◌∙◌, refl, arith, OnErr}
 use Rattle.apex_base.specs.declared.numbers.Scale.{Scale}
 use Rattle.apex_base.specs.declared.numbers.Scale.TheVariants.{Small, Standard}
@@ -14,12 +14,15 @@ use Rattle.apex_world.specs.Step.{step}
 use Rattle.apex_world.specs.World.{World}
 use Rattle.apex_world.proofs.RowWeightLemmas.{file_rows_weigh}
 use Rattle.row_map.specs.Rows.{changed}
+use Rattle.apex_core.specs.declared.answer.Answer.{Answer}
+use Rattle.apex_core.specs.declared.answer.Answer.TheVariants.{Answered, NoMemory}
 use Rattle.apex_core.specs.declared.judged.Judged.{Judged}
 use Rattle.apex_core.specs.declared.judged.Patch.{Patch}
 use Rattle.apex_core.specs.declared.judged.Patch.TheVariants.{Nothing}
 use Rattle.apex_core.specs.declared.tables.Tables.{Tables}
 use Rattle.apex_core.specs.Core.{StandsFor}
 use Rattle.apex_core.specs.Judged.{IsJudged, IsPatched, IsSame, patched, clock_after, units_after, unfinished_after}
+use Rattle.apex_core.specs.Prepared.{IfAnswered, IfNoMemory}
 
 small_scale : (scale : Scale) (n : ℕ) → n ≤ scale_file_weight scale → n < 2 ^ 32
 small_scale Small n low = omega (arith, low)
@@ -88,6 +91,12 @@ stands_same kept kept' before after w s e p = record {
 pub if_err : {X Y P : Type 0} (result : Result X Y) → P → OnErr result P
 if_err (Ok x) h = tt
 if_err (Err y) h = h
+
+-- what follows from what holds after a reply, and from what holds where memory ran out
+pub by_answer : {A B P : Type 0} (answer : Answer) → IfAnswered answer (λ reply. A)
+    → IfNoMemory answer (λ entered. B) → (A → P) → (B → P) → P
+by_answer (Answered reply) a b f g = f a
+by_answer (NoMemory entered) a b f g = g b
 
 -- the same rows and tables, where the call changes nothing
 pub stands_quiet : (kept : RowMap) (tables : Tables) (w : World) (call : Call) (judged : Judged)

@@ -15,7 +15,8 @@ use Rattle.row_map.specs.Room.{in_batch}
 use Rattle.apex_world.proofs.WorldRows.{same_name}
 use Rattle.apex_core.specs.Ending.{record_change, row_before, backups_taken, success_batch}
 use Rattle.apex_core.specs.Taken.{deletion}
-use Rattle.apex_core.proofs.TakenFiles.{in_batch_in, IsBelowFiles, all_ascend}
+use Rattle.apex_core.proofs.BatchRows.{in_batch_row}
+use Rattle.apex_core.proofs.TakenFiles.{IsBelowFiles, all_ascend}
 use Rattle.apex_core.proofs.Moved.{or_false}
 
 head_ascends : (r : Record) (ps : List Part)
@@ -44,5 +45,5 @@ backup_there name [] low e = absurd (cc)
 backup_there name (p ∷ []) low e =
     let same : p.name ≡ name = same_name p.name name (sym (or_false (bytes_eq p.name name)) ∙ e) in
     ap (λ (a : List ℕ). in_batch (key_text (BackupOf a)) (backups_taken (p ∷ []))) (sym same)
-    ∙ in_batch_in (deletion (key_text (BackupOf p.name))) (backups_taken (p ∷ [])) (inl refl)
+    ∙ in_batch_row (deletion (key_text (BackupOf p.name))) (backups_taken (p ∷ [])) (inl refl)
 backup_there name (p ∷ q ∷ ps) low e = absurd (omega (arith, low))

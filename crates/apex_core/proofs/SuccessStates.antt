@@ -13,6 +13,7 @@ use Rattle.apex_base.specs.Moves.{moved}
 use Rattle.apex_base.specs.Ranges.{IsMillis}
 use Rattle.apex_world.specs.Rows.{row_at}
 use Rattle.apex_world.specs.World.{World}
+use Rattle.apex_world.proofs.StateFacts.{success_from}
 
 -- a session that can be marked successful is ACTIVATED, or SUCCESS already
 pub success_state : (a b : State) → moved a step_of.Success ≡ Some b → b ≡ state.Success
@@ -26,14 +27,7 @@ success_state state.Reverted b e = absurd (cc)
 success_state state.Aborted b e = absurd (cc)
 
 pub activated_state : (a b : State) → moved a step_of.Success ≡ Some b → is_success a ≡ false → a ≡ state.Activated
-activated_state state.Verified b e f = absurd (cc)
-activated_state state.Staged b e f = absurd (cc)
-activated_state state.Activated b e f = refl
-activated_state state.ActivationFailed b e f = absurd (cc)
-activated_state state.Success b e f = absurd (cc)
-activated_state state.RevertInProgress b e f = absurd (cc)
-activated_state state.Reverted b e f = absurd (cc)
-activated_state state.Aborted b e f = absurd (cc)
+activated_state = success_from
 
 pub is_success_state : (a : State) → is_success a ≡ true → a ≡ state.Success
 is_success_state state.Verified e = absurd (cc)

@@ -49,11 +49,11 @@ use Rattle.apex_core.specs.Judged.{IsJudged, patched, clock_after, units_after, 
 use Rattle.apex_core.specs.Unfinished.{unfinished_with}
 use Rattle.apex_core.specs.Moving.{Moves}
 use Rattle.apex_core.specs.Taken.{files_taken}
-use Rattle.apex_core.proofs.Aborts.{numbered}
 use Rattle.apex_core.proofs.BackupRows.{backups_are}
 use Rattle.apex_core.proofs.Batches.{IsRowOf, batch_leads}
 use Rattle.apex_core.proofs.BeforeGoes.{before_goes}
 use Rattle.apex_core.proofs.GivenUp.{held_target_of, held_by, none_outdated, no_restore, gives}
+use Rattle.apex_core.proofs.Judgements.{numbered}
 use Rattle.apex_core.proofs.TakenBatches.{of_module, files_lead}
 use Rattle.apex_core.proofs.SuccessBatches.{backup_there}
 use Rattle.apex_core.proofs.SuccessStates.{success_state, activated_state, is_success_state, other_clock}

@@ -4,6 +4,7 @@ use Rattle.std.proofs.Common.{◌≡◌, ◌≢◌, ℕ, Bool, true, false, not,
 use Rattle.std.proofs.Common.{refl}
 use Rattle.std.specs.Prelude.{IfSome}
 use Rattle.std.specs.Option.{option_map}
+use Rattle.std.specs.Cmp.{both_ways}
 use Rattle.std.specs.Cmp.Lexicographic.{slice_cmp}
 use Rattle.std.specs.FinMap as fin
 use Rattle.std.specs.FinMap.{get-empty}
@@ -31,12 +32,6 @@ are_of tag m = list_any (λ row. has_tag tag row.0) (fin.entries m)
 -- whether something stands in a table
 abbrev pub is_some_table : {X : Type 0} → Table X → Bool
 is_some_table t = not (eqb (fin.len t) 0)
-
--- tests that follow from each other are the same
-same_test : (a b : Bool) → (a ≡ true → b ≡ true) → (b ≡ true → a ≡ true) → a ≡ b
-same_test true b f g = sym (f refl)
-same_test false true f g = g refl
-same_test false false f g = refl
 
 module _ {X : Type 0} (t : Table X) where
   none_in_empty : (name key : List ℕ) (x : X) → t ≡ fin.empty → value_of t name key ≡ Some x → ⊥
@@ -118,10 +113,10 @@ module _ (w : World) (law : Lawful w) where
 
   -- there are rows of data exactly where the world has data
   pub data_rows : are_of 6 (rows w) ≡ is_some_table w.contents
-  data_rows = same_test (are_of 6 (rows w)) (is_some_table w.contents)
+  data_rows = both_ways (are_of 6 (rows w)) (is_some_table w.contents)
       (λ e. let (t, value, h, has) = row_of_tag 6 e in data_there t value h has) data_back
 
   -- and rows of watches exactly where it has watches
   pub watch_rows : are_of 9 (rows w) ≡ is_some_table w.watches
-  watch_rows = same_test (are_of 9 (rows w)) (is_some_table w.watches)
+  watch_rows = both_ways (are_of 9 (rows w)) (is_some_table w.watches)
       (λ e. let (t, value, h, has) = row_of_tag 9 e in watch_there t value h has) watch_back

@@ -1,16 +1,14 @@
--- The rows that go with a module. Callers want `taken_in`, `not_taken`, `not_first`, `not_second`, `in_batch_in`,
--- `all_ascend`, `IsBelowFiles` and `ascend`.
-use Rattle.std.proofs.Common.{◌≡◌, ℕ, Bool, true, false, cond, eqb, List, [], ◌∷◌, ◌++◌, map, length, drop, Option}
+-- The rows that go with a module. Callers want `taken_in`, `not_taken`, `not_first`, `not_second`,
+-- `all_ascend` and `IsBelowFiles`.
+use Rattle.std.proofs.Common.{◌≡◌, ℕ, Bool, true, false, eqb, List, [], ◌∷◌, ◌++◌, map, length, drop, Option}
 use Rattle.std.proofs.Common.{Some, None, sym, ap, subst, ◌∙◌, refl, inl, inr, ◌||◌}
 use Rattle.std.specs.Cmp.Lexicographic.{slice_cmp}
-use Rattle.std.specs.declared.cmp.Ordering.{Ordering}
-use Rattle.std.specs.declared.cmp.Ordering.TheVariants.{Less, Equal, Greater}
+use Rattle.std.specs.declared.cmp.Ordering.TheVariants.{Less}
 use Rattle.std.specs.FinMap as fin
-use Rattle.std.specs.FinMap.Entries.{is_sorted, below_all}
-use Rattle.std.specs.List.{filter, starts_with, AllByRecursion}
+use Rattle.std.specs.List.{filter, starts_with}
 use Rattle.std.specs.List.Sorted.{IsStrictlySortedBy}
-use Rattle.std.specs.Ordering.{nat_cmp, is_lt}
-use Rattle.std.proofs.lemmas.Bool.{false≢true, and_parts}
+use Rattle.std.specs.Ordering.{nat_cmp}
+use Rattle.std.proofs.lemmas.Bool.{false≢true}
 use Rattle.std.proofs.lemmas.Bool.Decides.{Decides-eqb}
 use Rattle.std.proofs.lemmas.List.Kept.{IsStrictlySortedBy-filter}
 use Rattle.std.proofs.lemmas.Slice.Eq.{starts_is}
@@ -18,28 +16,15 @@ use Rattle.apex_base.specs.declared.records.Target.{Target}
 use Rattle.apex_base.specs.declared.records.Target.TheVariants.{Preinstalled, Module}
 use Rattle.apex_base.specs.Keys.{RowMap, file_front}
 use Rattle.apex_base.specs.Members.{In}
+use Rattle.apex_base.proofs.Finding.{filtered}
 use Rattle.apex_base.proofs.MemberLemmas.{in_map, in_map_back, in_filter, in_each, each_in, in_append}
 use Rattle.apex_base.proofs.RowMaps.{in_keys, sorted_entries}
+use Rattle.package_store.proofs.Maps.{ascend}
 use Rattle.row_codec.specs.declared.batch.Row.{Row}
 use Rattle.row_codec.specs.Batch.{keys_of}
 use Rattle.row_map.specs.Room.{in_batch, same_key}
-use Rattle.row_map.proofs.Maps.{itself}
 use Rattle.apex_core.specs.Taken.{deletion, taken, files_taken}
-
--- Batches
-
-true_or : (b : Bool) → (b || true) ≡ true
-true_or true = refl
-true_or false = refl
-
--- the key of a row is in its batch
-pub in_batch_in : (row : Row) (rows : List Row) → In row rows → in_batch row.key rows ≡ true
-in_batch_in row [] i = absurd i
-in_batch_in row (r ∷ rows) (inl e) =
-    ap (λ (x : Row). same_key row.key x.key || in_batch row.key rows) e
-    ∙ ap (λ (b : Bool). b || in_batch row.key rows) (itself row.key)
-in_batch_in row (r ∷ rows) (inr i) =
-    ap (λ (b : Bool). same_key row.key r.key || b) (in_batch_in row rows i) ∙ true_or (same_key row.key r.key)
+use Rattle.apex_core.proofs.BatchRows.{in_batch_row}
 
 neither_if : (a b c : Bool) → (a || b) ≡ false → (b ≡ false → c ≡ false) → (a || c) ≡ false
 neither_if true b c e more = absurd (false≢true (sym e))
@@ -62,21 +47,6 @@ not_second q (x ∷ xs) ys e =
 
 -- The rows whose keys begin alike
 
-filter_if : {X : Type 0} (p : X → Bool) (x y : X) (zs : List X) (b : Bool) → p y ≡ b → x ≡ y → p x ≡ true
-    → In x (cond b (y ∷ zs) zs)
-filter_if p x y zs true e same passes = inl (sym same)
-filter_if p x y zs false e same passes = absurd (false≢true (sym e ∙ ap p (sym same) ∙ passes))
-
-in_more : {X : Type 0} (x y : X) (zs : List X) (b : Bool) → In x zs → In x (cond b (y ∷ zs) zs)
-in_more x y zs true i = inr i
-in_more x y zs false i = i
-
--- what passes is filtered
-filter_in : {X : Type 0} (p : X → Bool) (x : X) (xs : List X) → In x xs → p x ≡ true → In x (filter p xs)
-filter_in p x [] i passes = absurd i
-filter_in p x (y ∷ ys) (inl e) passes = filter_if p x y (filter p ys) (p y) refl (sym e) passes
-filter_in p x (y ∷ ys) (inr i) passes = in_more x y (filter p ys) (p y) (filter_in p x ys i passes)
-
 module _ (front : List ℕ) (m : RowMap) where
   begins : List ℕ → Bool
   begins key = starts_with eqb key front
@@ -98,8 +68,8 @@ module _ (front : List ℕ) (m : RowMap) where
       → in_batch q (taken front (fin.keys m)) ≡ true
   unfolding begins
   taken_has q rest v e f =
-      in_batch_in (deletion q) (taken front (fin.keys m)) (in_map deletion q (filter begins (fin.keys m))
-      (filter_in begins q (fin.keys m) (in_keys m q v f) ((starts_is Decides-eqb q front (begins q) refl).1 rest e)))
+      in_batch_row (deletion q) (taken front (fin.keys m)) (in_map deletion q (filter begins (fin.keys m))
+      (filtered begins q (fin.keys m) (in_keys m q v f) ((starts_is Decides-eqb q front (begins q) refl).1 rest e)))
 
   not_taken_if : (q rest : List ℕ) (o : Option (List ℕ)) → fin.get m q ≡ o → q ≡ front ++ rest
       → in_batch q (taken front (fin.keys m)) ≡ false → o ≡ None
@@ -112,22 +82,6 @@ module _ (front : List ℕ) (m : RowMap) where
   not_taken q rest e none = not_taken_if q rest (fin.get m q) refl e none
 
 -- They ascend
-
-is_less : (o : Ordering) → is_lt o ≡ true → o ≡ Less
-is_less Less e = refl
-is_less Equal e = absurd (cc)
-is_less Greater e = absurd (cc)
-
-below : (key : List ℕ) (es : List (List ℕ × List ℕ)) → below_all (slice_cmp nat_cmp) key es ≡ true
-    → AllByRecursion (λ q. slice_cmp nat_cmp key q ≡ Less) (map (λ (e : List ℕ × List ℕ). e.0) es)
-below key [] e = tt
-below key (x ∷ es) e = let (a, b) = and_parts _ _ e in (is_less _ a, below key es b)
-
-pub ascend : (es : List (List ℕ × List ℕ)) → is_sorted (slice_cmp nat_cmp) es ≡ true
-    → IsStrictlySortedBy (slice_cmp nat_cmp) (map (λ (e : List ℕ × List ℕ). e.0) es)
-unfolding IsStrictlySortedBy
-ascend [] e = tt
-ascend (x ∷ es) e = let (a, b) = and_parts _ _ e in (below x.0 es a, ascend es b)
 
 keys_again : (keys : List (List ℕ)) → keys_of (map deletion keys) ≡ keys
 keys_again [] = refl

@@ -7,6 +7,10 @@ use Rattle.apex_base.specs.declared.records.State.{State}
 use Rattle.apex_base.specs.Moves.{moved}
 use Rattle.apex_base.specs.Sessions.{session_of, with_session}
 
+-- a session in another state
+abbrev pub in_state : Record → State → Record
+in_state r b = record r { state = b; rollback = r.rollback }
+
 -- the session of an id, where it stands, and the state that a move leads it to
 pub record Moves (sessions : List Record) (id : SessionId) (by : Move) (place : ℕ) (next : State) : Type 0 where
   pub session : Record

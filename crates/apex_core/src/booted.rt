@@ -89,9 +89,9 @@ fn boot_noted(alloc: Global, number: u32, moments: &[Millis]) -> Result<Noted, A
     ensures changes { IfOk result (λ noted. noted.changes.items ≡ []) }
     ensures rows { IfOk result (λ noted. noted.rows.items ≡ boots_change number moments.now ∷ []) }
 {
-    let mut key = Bytes::new(alloc);
+    let mut key = Listed::new(alloc);
     key.push(1u8)?;
-    let value = Some(Listed::of(boots_value(alloc, number, moments)?));
+    let value = Some(Bytes::of(boots_value(alloc, number, moments)?));
     let mut rows = Vec::with_capacity(alloc, 1)?;
     rows.push(Row { key, value })?;
     Ok(Noted {

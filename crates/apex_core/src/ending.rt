@@ -1,8 +1,7 @@
 //! How a session ends by a call: abort and success, `docs/calls.md`.
-ghost use Rattle.std.specs.Prelude.{◌≡◌, ℕ, max, IfOk, IfErr};
+ghost use Rattle.std.specs.Prelude.{◌≡◌, max, IfOk};
 ghost use Rattle.std.specs.FinMap as fin;
 ghost use Rattle.apex_base.specs.Keys.{BackupOf, key_text};
-ghost use Rattle.apex_base.specs.Sessions.{Ascend};
 ghost use Rattle.apex_base.specs.Ranges.{IsMillis};
 ghost use Rattle.session_record.specs.Room.{HasPartNumber, HasRoom};
 ghost use Rattle.row_codec.specs.Batch.{keys_of};
@@ -10,23 +9,18 @@ ghost use Rattle.std.specs.Cmp.Lexicographic.{slice_cmp};
 ghost use Rattle.std.specs.Ordering.{nat_cmp};
 ghost use Rattle.std.specs.List.Sorted.{IsStrictlySortedBy};
 ghost use Rattle.apex_world.specs.declared.calls.Call.TheVariants as calls;
-ghost use Rattle.apex_world.specs.Advance.{move_session};
-ghost use Rattle.apex_world.specs.Stepped.{refused};
 ghost use Rattle.apex_world.specs.World.{World};
 ghost use Rattle.apex_core.specs.Core.{StandsFor};
 ghost use Rattle.apex_core.specs.Ending.{row_before, spelled, success_batch};
 ghost use Rattle.apex_core.specs.Judged.{IsJudged, IsPlaced};
-ghost use Rattle.apex_core.specs.Moving.{Moves};
 ghost use Rattle.apex_core.specs.Taken.{first_of};
 
 use crate::files::take_files;
 use crate::judged::{Judged, Patch};
+use crate::moving::moving;
 use crate::rows::{record_rows, session_in};
 use crate::tables::Tables;
-use apex_base::{
-    Bytes, Listed, Millis, Move, Name, Part, Record, Refusal, SessionId, State, Target, moved,
-    place_of,
-};
+use apex_base::{Listed, Millis, Move, Name, Part, Record, SessionId, Target};
 use apex_world::Reply;
 use row_codec::Row;
 use row_map::Rows;
@@ -34,6 +28,7 @@ use session_record::target_at;
 use std::alloc::{AllocError, Global};
 
 /// Abort: the session's record changes where it was VERIFIED or STAGED, and its modules go.
+#[inline(never)]
 pub(crate) fn judge_abort(
     alloc: Global,
     rows: &Rows,
@@ -62,6 +57,7 @@ pub(crate) fn judge_abort(
 }
 
 /// Success: the session's record changes where it was ACTIVATED, and what its names held before goes.
+#[inline(never)]
 pub(crate) fn judge_success(
     alloc: Global,
     rows: &Rows,
@@ -125,7 +121,7 @@ fn target_in(rows: &Rows, key: &[u8]) -> Target
 }
 
 /// The key of the row of what a name held before.
-fn backup_key(alloc: Global, name: &Name) -> Result<Bytes, AllocError>
+fn backup_key(alloc: Global, name: &Name) -> Result<Listed<u8>, AllocError>
     ensures { IfOk result (λ key. key ≡ key_text (BackupOf name.now)) }
 {
     let mut bytes = Vec::with_capacity(alloc, 1)?;
@@ -140,21 +136,6 @@ fn later_of(a: Millis, b: Millis) -> Millis
     ensures range { IsMillis result }
 {
     if a.number() < b.number() { b } else { a }
-}
-
-/// The place of the session that a call moves, and the state that it leads to.
-fn moving(tables: &Tables, id: SessionId, by: Move) -> Result<(usize, State), Refusal>
-    requires { Ascend tables.now.sessions.items }
-    ensures moves { IfOk result (λ to. Moves tables.now.sessions.items id by to.0 to.1) }
-    ensures refused { IfErr result (λ why. (w : World) (clock : ℕ) → tables.now.sessions.items ≡ w.sessions
-        → move_session w clock id by ≡ refused w why) }
-{
-    let Ok(place) = place_of(&tables.sessions, id) else {
-        return Err(Refusal::NoSession { id });
-    };
-    let state = tables.sessions[place].state;
-    let next = moved(state, by).ok_or(Refusal::BadState { state })?;
-    Ok((place, next))
 }
 
 /// The target of the first part. A session without children has no other.

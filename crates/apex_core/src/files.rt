@@ -1,11 +1,11 @@
 //! The rows of a module's files.
-ghost use Rattle.std.specs.Prelude.{◌≡◌, ◌++◌, ◌<◌, [], OnOk};
+ghost use Rattle.std.specs.Prelude.{◌≡◌, ◌++◌, OnOk};
 ghost use Rattle.std.specs.FinMap as fin;
-ghost use Rattle.apex_base.specs.Keys.{file_front};
 ghost use Rattle.session_record.specs.Room.{HasPartNumber};
 ghost use Rattle.apex_core.specs.Taken.{taken, files_taken};
 
-use apex_base::{Listed, SessionId, Target};
+use apex_base::{Listed, Target};
+use package_store::file_front;
 use row_codec::Row;
 use row_map::Rows;
 use std::alloc::{AllocError, Global};
@@ -28,15 +28,6 @@ pub(crate) fn take_files(
             version: _,
         } => take_rows(alloc, rows, &file_front(session, part), batch),
     }
-}
-
-/// The first bytes of the keys of a module's files.
-fn file_front(session: SessionId, part: u32) -> [u8; 6]
-    requires { part < 256 }
-    ensures { result ≡ file_front session part [] }
-{
-    let [a, b, c, d] = session.0.to_be_bytes();
-    [5, a, b, c, d, part as u8]
 }
 
 /// Adds to a batch that the rows whose keys begin so go. It reads these rows, and one more.

@@ -34,6 +34,7 @@ pub enum Patch {
 }
 
 impl Patch {
+    /// The session at a place becomes this one.
     pub(crate) fn session(alloc: Global, place: usize, session: Record) -> Result<Self, AllocError>
         ensures { IfOk result (λ patch. patch ≡ Session place session) }
     {
@@ -41,6 +42,7 @@ impl Patch {
         Ok(Patch::Session { place, session })
     }
 
+    /// The session at a place becomes this one, and the clock moves to this moment.
     pub(crate) fn success(
         alloc: Global,
         place: usize,
@@ -57,6 +59,7 @@ impl Patch {
         })
     }
 
+    /// This session comes to stand at a place.
     pub(crate) fn new(alloc: Global, place: usize, session: Record) -> Result<Self, AllocError>
         ensures { IfOk result (λ patch. patch ≡ New place session) }
     {

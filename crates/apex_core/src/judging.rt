@@ -1,26 +1,31 @@
 //! What each call is to do: `docs/calls.md`.
-ghost use Rattle.std.specs.Prelude.{◌≡◌, IfOk};
+ghost use Rattle.std.specs.Prelude.{◌≡◌, ◌∷◌, [], IfOk};
 ghost use Rattle.row_codec.specs.Batch.{keys_of};
 ghost use Rattle.std.specs.Cmp.Lexicographic.{slice_cmp};
 ghost use Rattle.std.specs.Ordering.{nat_cmp};
 ghost use Rattle.std.specs.List.Sorted.{IsStrictlySortedBy};
-ghost use Rattle.apex_base.specs.Keys.{RowMap};
+ghost use Rattle.session_record.specs.Room.{HasRoom};
 ghost use Rattle.apex_world.specs.declared.calls.Call.TheVariants as calls;
+ghost use Rattle.apex_world.specs.declared.calls.Reply.TheVariants.{Done};
 ghost use Rattle.apex_world.specs.Rows.{is_staged};
 ghost use Rattle.apex_world.specs.World.{World};
+ghost use Rattle.apex_core.specs.declared.judged.Patch.TheVariants.{Session};
 ghost use Rattle.apex_core.specs.Core.{StandsFor};
+ghost use Rattle.apex_core.specs.Ending.{record_change};
 ghost use Rattle.apex_core.specs.Judged.{IsJudged, IsPlaced};
+ghost use Rattle.apex_core.specs.Moving.{in_state};
 ghost use Rattle.apex_core.specs.Prepared.{call_of};
 ghost use Rattle.apex_world.specs.Playable.{IsBuilt};
 
 use crate::ending::{judge_abort, judge_success};
 use crate::judged::{Judged, Patch};
+use crate::moving::moving;
 use crate::prepared::{CheckedCall, OtherCall};
 use crate::rows::{record_rows, session_in};
 use crate::sessions::session_with;
 use crate::submitting::judge_single;
 use crate::tables::Tables;
-use apex_base::{Move, Refusal, SessionId, State, moved, place_of};
+use apex_base::{Move, Record, Refusal, SessionId, State};
 use apex_world::Reply;
 use row_map::Rows;
 use std::alloc::{AllocError, Global};
@@ -37,17 +42,33 @@ fn judge_ready(
     ensures placed { IfOk result (λ j. IsPlaced j.patch tables.now.sessions.items) }
     ensures ascending { IfOk result (λ j. IsStrictlySortedBy (slice_cmp nat_cmp) (keys_of j.rows.items)) }
 {
-    let Ok(place) = place_of(&tables.sessions, id) else {
-        return Ok(Judged::quiet(alloc, Reply::Refused(Refusal::NoSession { id })));
+    let (place, next) = match moving(tables, id, Move::Ready) {
+        Ok(to) => to,
+        Err(why) => return Ok(Judged::quiet(alloc, Reply::Refused(why))),
     };
     let r = &tables.sessions[place];
-    let Some(next) = moved(r.state, Move::Ready) else {
-        let state = r.state;
-        return Ok(Judged::quiet(alloc, Reply::Refused(Refusal::BadState { state })));
-    };
     if is_staged(r.state) {
         return Ok(Judged::quiet(alloc, Reply::Done));
     }
+    change_state(alloc, place, r, next)
+}
+
+fn is_staged(state: State) -> bool
+    ensures { result ≡ is_staged state }
+{
+    matches!(state, State::Staged)
+}
+
+/// The record of the session at a place changes its state, and nothing else of it. It stands apart, so that a call which
+/// changes nothing makes no room for it.
+#[inline(never)]
+fn change_state(alloc: Global, place: usize, r: &Record, next: State) -> Result<Judged, AllocError>
+    requires room { HasRoom (in_state r.now next) }
+    ensures reply { IfOk result (λ j. j.reply ≡ Done) }
+    ensures rows { IfOk result (λ j. j.rows.items ≡ record_change (in_state r.now next) ∷ []) }
+    ensures patch { IfOk result (λ j. j.patch ≡ Session place (in_state r.now next)) }
+    ensures ascending { IfOk result (λ j. IsStrictlySortedBy (slice_cmp nat_cmp) (keys_of j.rows.items)) }
+{
     let session = session_in(alloc, r, next, r.rollback)?;
     let rows = record_rows(alloc, &session)?;
     let patch = Patch::session(alloc, place, session)?;
@@ -56,12 +77,6 @@ fn judge_ready(
         rows,
         patch,
     })
-}
-
-fn is_staged(state: State) -> bool
-    ensures { result ≡ is_staged state }
-{
-    matches!(state, State::Staged)
 }
 
 /// The state of a session, or of a child's parent.

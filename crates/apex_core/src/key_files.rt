@@ -4,7 +4,7 @@ ghost use Rattle.apex_base.specs.Keys.{FileOf, key_text};
 ghost use Rattle.apex_world.specs.BootByRows.{key_in};
 ghost use Rattle.apex_world.specs.Soundness.{key_of, is_same_key_at};
 
-use apex_base::{FilePath, Module, SessionId};
+use apex_base::{Bytes, FilePath, Module, SessionId};
 use apex_world::{Package, SharedModule};
 use row_map::Rows;
 use std::alloc::{AllocError, Global};
@@ -47,7 +47,7 @@ fn with_key(alloc: Global, key: Option<&[u8]>) -> Result<SharedModule, AllocErro
         return SharedModule::of(alloc, Module::new(alloc));
     };
     let mut files = Module::new(alloc);
-    match files.put(FilePath::key(), bytes.to_vec(alloc)?) {
+    match files.put(FilePath::key(), Bytes::of(bytes.to_vec(alloc)?)) {
         Ok(()) => SharedModule::of(alloc, files),
         Err(_) => Err(AllocError),
     }

@@ -16,6 +16,7 @@ mod judged;
 mod judging;
 mod key_files;
 mod manager;
+mod moving;
 mod opening;
 mod prepared;
 mod rows;

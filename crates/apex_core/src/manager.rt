@@ -1,15 +1,20 @@
 //! The manager of one thread.
 ghost use Rattle.std.specs.Prelude.{◌≡◌, ◌≤◌, ◌<◌, ◌^◌, false, IfOk, IsSomeAnd, OnOk, OnErr, find, option_map};
+ghost use Rattle.std.specs.Cmp.Lexicographic.{slice_cmp};
+ghost use Rattle.std.specs.List.Sorted.{IsStrictlySortedBy};
 ghost use Rattle.std.specs.Option.{ForSome};
+ghost use Rattle.std.specs.Ordering.{nat_cmp};
 ghost use Rattle.apex_base.specs.declared.records.Record.{Record};
 ghost use Rattle.apex_base.specs.Sessions.{has_id};
+ghost use Rattle.row_codec.specs.Batch.{keys_of};
+ghost use Rattle.apex_world.specs.declared.calls.Call.{Call};
 ghost use Rattle.apex_world.specs.Step.{step};
 ghost use Rattle.apex_world.specs.World.{World};
 ghost use Rattle.apex_world.specs.Limits.{kind_units};
 ghost use Rattle.apex_world.specs.Playable.{IsBuilt};
 ghost use Rattle.apex_core.specs.Core.{StandsFor, IsStored, Kept};
 ghost use Rattle.apex_core.specs.Prepared.{IfAnswered, IfNoMemory, call_of};
-ghost use Rattle.apex_core.specs.Judged.{HasRoom, IsPlaced, IsPatched, IsSame, units_after};
+ghost use Rattle.apex_core.specs.Judged.{HasRoom, IsJudged, IsPlaced, IsPatched, IsSame, units_after};
 
 use crate::answer::Answer;
 use crate::judged::{Judged, Patch};
@@ -83,26 +88,50 @@ pub(crate) fn kind_units(kind: Kind) -> u32
     }
 }
 
-/// One call: judged, and then done in the rows and the tables.
-fn perform(
-    alloc: Global,
-    rows: &mut Rows,
-    tables: &mut Tables,
-    call: &CheckedCall,
-) -> Result<Reply, AllocError>
+/// One call: judged, and then done in the rows and the tables. It stands apart from `act`, and `change` from it: a function
+/// clears, when it is entered, the locals of all calls that the compiler writes into it, and a call that changes nothing
+/// shouldn't pay for those of one that does.
+#[inline(never)]
+fn perform(alloc: Global, rows: &mut Rows, tables: &mut Tables, call: &CheckedCall) -> Answer
     requires built { IsBuilt (call_of call.now) }
     requires stands { (w : World) × StandsFor rows.old tables.old w }
     ensures reply { (w : World) → StandsFor rows.old tables.old w
-        → IfOk result (λ reply. reply ≡ (step w (call_of call.now)).reply) }
+        → IfAnswered result (λ reply. reply ≡ (step w (call_of call.now)).reply) }
     ensures stands { (w : World) → StandsFor rows.old tables.old w
-        → OnOk result (StandsFor rows.new tables.new (step w (call_of call.now)).world) }
+        → IfAnswered result (λ _. StandsFor rows.new tables.new (step w (call_of call.now)).world) }
+    ensures stays { (w : World) → StandsFor rows.old tables.old w
+        → IfNoMemory result (λ _. StandsFor rows.new tables.new w) }
+    ensures entered { IfNoMemory result (λ entered. entered ≡ false) }
+{
+    let Ok(judged) = judge(alloc, rows, tables, call) else {
+        return Answer::NoMemory { entered: false };
+    };
+    if judged.changes_nothing() {
+        return Answer::Answered(judged.reply);
+    }
+    match change(alloc, rows, tables, judged) {
+        Ok(reply) => Answer::Answered(reply),
+        Err(_) => Answer::NoMemory { entered: false },
+    }
+}
+
+/// What was judged of a call is done in the rows and the tables. Memory for all of it is taken first.
+#[inline(never)]
+fn change(
+    alloc: Global,
+    rows: &mut Rows,
+    tables: &mut Tables,
+    judged: Judged,
+) -> Result<Reply, AllocError>
+    requires judged { (w : World) × (call : Call) × (StandsFor rows.old tables.old w) × (IsJudged judged rows.old w call) }
+    requires placed { IsPlaced judged.patch tables.old.sessions.items }
+    requires ascending { IsStrictlySortedBy (slice_cmp nat_cmp) (keys_of judged.rows.items) }
+    ensures reply { IfOk result (λ reply. reply ≡ judged.reply) }
+    ensures stands { (w : World) (call : Call) → StandsFor rows.old tables.old w → IsJudged judged rows.old w call
+        → OnOk result (StandsFor rows.new tables.new (step w call).world) }
     ensures stays { (w : World) → StandsFor rows.old tables.old w
         → OnErr result (StandsFor rows.new tables.new w) }
 {
-    let judged = judge(alloc, rows, tables, call)?;
-    if judged.changes_nothing() {
-        return Ok(judged.reply);
-    }
     let reply = judged.reply;
     let batch = judged.rows;
     let patch = judged.patch;
@@ -173,10 +202,7 @@ impl Core {
         let Some(call) = call.into_call() else {
             return Answer::NoMemory { entered: false };
         };
-        match perform(alloc, &mut self.rows, &mut self.tables, &call) {
-            Ok(reply) => Answer::Answered(reply),
-            Err(_) => Answer::NoMemory { entered: false },
-        }
+        perform(alloc, &mut self.rows, &mut self.tables, &call)
     }
 
     /// What the last boot chose for each name of its image. It takes no memory.

@@ -1,12 +1,12 @@
 //! Calls whose modules are checked, before a core does them. What a call is to do stands in `judging`.
-ghost use Rattle.std.specs.Prelude.{◌≡◌, None, Some, IfOk, IfSome, option_map};
+ghost use Rattle.std.specs.Prelude.{◌≡◌, ◌∷◌, [], None, Some, IfOk, IfSome, option_map};
 ghost use Rattle.apex_world.specs.declared.calls.Call.TheVariants as calls;
 ghost use Rattle.apex_core.specs.declared.prepared.CheckedCall.TheVariants.{Other};
 ghost use Rattle.apex_core.specs.Prepared.{call_of};
 
 use crate::checked::CheckedModule;
 use apex_base::{Boxed, Bytes, Listed, Millis, Name, Reason, SessionId};
-use apex_world::{Call, IdList, ModuleList, NameList};
+use apex_world::{Call, IdList, ModuleList, NameList, SharedModule};
 use std::alloc::{AllocError, Global};
 use std::marker::Model;
 
@@ -123,6 +123,15 @@ impl Prepared {
         }
     }
 
+    /// A submit of one module without children, as `prepare` makes it. Where memory runs out, the value says so.
+    pub fn submit(alloc: Global, id: SessionId, rollback: bool, part: SharedModule) -> Self
+        ensures { IfSome result (λ c. c ≡ calls.Submit id [] rollback (part ∷ [])) }
+    {
+        Prepared {
+            checked: check_one(alloc, id, rollback, part).ok(),
+        }
+    }
+
     /// That there was no memory for the call.
     pub fn without_memory() -> Self
         ensures { result ≡ None }
@@ -194,6 +203,25 @@ fn check_call(alloc: Global, call: Call) -> Result<CheckedCall, AllocError>
             other(alloc, OtherCall::Report { time, name, reason })
         }
     }
+}
+
+/// A submit of one module without children, its module checked.
+fn check_one(
+    alloc: Global,
+    id: SessionId,
+    rollback: bool,
+    part: SharedModule,
+) -> Result<CheckedCall, AllocError>
+    ensures { IfOk result (λ c. call_of c ≡ calls.Submit id [] rollback (part ∷ [])) }
+{
+    let checked = CheckedModule::of(alloc, part)?;
+    let submit = CheckedSubmit {
+        id,
+        children: Listed::new(alloc),
+        rollback,
+        parts: Listed::one(alloc, checked)?,
+    };
+    Ok(CheckedCall::Submit(Boxed::new(alloc, submit)?))
 }
 
 fn other(alloc: Global, call: OtherCall) -> Result<CheckedCall, AllocError>

@@ -22,14 +22,14 @@ pub(crate) fn record_rows(alloc: Global, r: &Record) -> Result<Vec<Row>, AllocEr
     ensures ascending { IfOk result (λ rows. IsStrictlySortedBy (slice_cmp nat_cmp) (keys_of rows.items)) }
 {
     let key = record_key(alloc, r.id)?;
-    let value = Some(Listed::of(encode_record(alloc, r)?));
+    let value = Some(Bytes::of(encode_record(alloc, r)?));
     let mut rows = Vec::with_capacity(alloc, 1)?;
     rows.push(Row { key, value })?;
     Ok(rows)
 }
 
 /// The key of a session's record.
-fn record_key(alloc: Global, id: SessionId) -> Result<Bytes, AllocError>
+fn record_key(alloc: Global, id: SessionId) -> Result<Listed<u8>, AllocError>
     ensures { IfOk result (λ key. key ≡ key_text (RecordOf id)) }
 {
     let mut bytes = Vec::with_capacity(alloc, 5)?;

@@ -33,6 +33,7 @@ use row_map::Rows;
 use std::alloc::{AllocError, Global};
 
 /// A submit as lines make it so far: of one module, without children and rollback.
+#[inline(never)]
 pub(crate) fn judge_single(
     alloc: Global,
     rows: &Rows,

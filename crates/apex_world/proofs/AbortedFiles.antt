@@ -51,9 +51,9 @@ module _ (w : World) (law : Lawful w) (r : Record) (h : In r w.sessions) (waits 
   not_other : (z : Record) (q : Part) (session : SessionId) (part version : ℕ) → In z w.sessions → z.id.0 ≢ r.id.0
       → In q z.parts → session.0 ≡ r.id.0 → q.target ≡ targets.Module session part version → ⊥
   not_other z q session part version i d j e f =
-      let o = owned w law z q i j session part version f in
+      let (o, by) = owned w law z q i j session part version f in
       let number : o.owner.id.0 ≡ r.id.0 = o.id ∙ e in
-      elim o.by [
+      elim by [
         | inl same ↦ d (ap (λ (z : Record). z.id.0) (sym same) ∙ number)
         | inr success ↦
             let one : o.owner ≡ r = one_session w.sessions o.owner r law.ids.ascend o.among h number in

@@ -82,6 +82,7 @@ pub mod ListedOrigins
 pub mod MapsOfRows
 pub mod MomentsAlike
 pub mod MayHappen
+pub mod ModulesOpened
 pub mod MoveStates
 pub mod MovedRows
 pub mod MovedSessions

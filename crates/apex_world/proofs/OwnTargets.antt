@@ -79,6 +79,10 @@ abbrev pub target_session : Target → ℕ
 target_session targets.Preinstalled = 0
 target_session (targets.Module session part version) = session.0
 
+abbrev pub target_part : Target → ℕ
+target_part targets.Preinstalled = 0
+target_part (targets.Module session part version) = part
+
 module _ (w : World) (law : Lawful w) where
   -- an ordinary session submitted the module
   abbrev IsSubmitted : Target → Type 0

@@ -6,7 +6,7 @@ ghost use Rattle.apex_base.specs.Modules.{IsModule, module_weight};
 ghost use Rattle.module_digest.specs.Listing.{listing};
 ghost use Rattle.apex_world.specs.Soundness.{manifest_in, checked, is_sound, key_of, is_same_key, short_form};
 
-use apex_base::{FilePath, Listed, Module, ModuleFault, Name, Shared, Version};
+use apex_base::{Bytes, FilePath, Listed, Module, ModuleFault, Name, Shared, Version};
 use apex_manifest::{Manifest, ManifestWhy, read_manifest, short_manifest};
 use itoa::Buffer;
 use module_digest::{check_listing, seal, sound_listing_is_the_listing};
@@ -199,7 +199,7 @@ fn short_directory(alloc: Global, name: &Name, version: Version) -> Result<Modul
 {
     let mut directory = Module::new(alloc);
     let text = short_manifest(alloc, name, version)?;
-    match directory.put(FilePath::manifest(), text) {
+    match directory.put(FilePath::manifest(), Bytes::of(text)) {
         Ok(()) => {}
         Err(_) => return Err(AllocError),
     }

@@ -1,13 +1,13 @@
 //! The calls of a script as a core takes them.
-ghost use Rattle.std.specs.Prelude.{◌≡◌, ◌∷◌, [], IfOk, IfSome};
+ghost use Rattle.std.specs.Prelude.{◌≡◌, ◌∷◌, [], IfSome};
 ghost use Rattle.apex_world.specs.declared.calls.Call.TheVariants as calls;
 ghost use Rattle.apex_world.specs.Calls.{call_at};
 ghost use Rattle.apex_world.specs.Playable.{IsBuilt};
 
-use apex_base::{Listed, SessionId};
-use apex_core::{Prepared, prepare};
-use apex_world::{Call, CallRef, ModuleList, SharedModule};
-use std::alloc::{AllocError, Global};
+use apex_base::SessionId;
+use apex_core::Prepared;
+use apex_world::{CallRef, SharedModule};
+use std::alloc::Global;
 
 /// A call of a script, prepared. No file of its modules is copied.
 pub(crate) fn prepared(alloc: Global, call: &CallRef) -> Prepared
@@ -43,23 +43,8 @@ pub(crate) fn prepared(alloc: Global, call: &CallRef) -> Prepared
 fn prepared_submit(alloc: Global, id: SessionId, rollback: bool, part: &SharedModule) -> Prepared
     ensures { IfSome result (λ c. c ≡ calls.Submit id [] rollback (part.now ∷ [])) }
 {
-    match shared(alloc, part) {
-        Ok(parts) => prepare(
-            alloc,
-            Call::Submit {
-                id,
-                children: Listed::new(alloc),
-                rollback,
-                parts,
-            },
-        ),
+    match part.share() {
+        Ok(part) => Prepared::submit(alloc, id, rollback, part),
         Err(_) => Prepared::without_memory(),
     }
-}
-
-/// The module with one more owner, as the one part of a submit.
-fn shared(alloc: Global, part: &SharedModule) -> Result<ModuleList, AllocError>
-    ensures { IfOk result (λ parts. parts ≡ part.now ∷ []) }
-{
-    Listed::one(alloc, part.share()?)
 }

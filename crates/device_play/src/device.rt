@@ -1,22 +1,20 @@
 //! A device: boots and calls happen to it, and from one boot to the next nothing but its rows is kept.
-ghost use Rattle.std.specs.Prelude.{◌≡◌, [], IfOk, IsSomeAnd, OnOk, OnErr, IsTrue};
+ghost use Rattle.std.specs.Prelude.{◌≡◌, [], IfOk, IsSomeAnd, OnOk, IsTrue};
 ghost use Rattle.std.specs.Option.{ForSome};
 ghost use Rattle.apex_base.specs.Ranges.{IsMillis};
 ghost use Rattle.apex_base.specs.Text.{is_print};
 ghost use Rattle.apex_core.specs.Core.{IsStored, StandsFor};
 ghost use Rattle.apex_core.specs.Prepared.{IfAnswered, IfNoMemory};
 ghost use Rattle.apex_world.specs.Boot.{boot_reply, boot_world};
-ghost use Rattle.apex_world.specs.Calls.{call_at};
 ghost use Rattle.apex_world.specs.Playable.{IsBuilt};
 ghost use Rattle.apex_world.specs.Step.{step};
 ghost use Rattle.apex_world.specs.World.{World, empty_world};
 ghost use Rattle.device_play.specs.Device.{IsDeviceOf, IsOn};
 ghost use Rattle.device_play.specs.Events.{CanBoot};
 
-use crate::calls::prepared;
 use apex_base::{Mounter, Scale, Why};
 use apex_core::{Answer, Core, Prepared};
-use apex_world::{BootOrder, BootReply, CallRef, Reply, TurnRow};
+use apex_world::{BootOrder, BootReply, TurnRow};
 use row_map::Rows;
 use std::alloc::{AllocError, Global};
 use std::mem;
@@ -65,29 +63,6 @@ impl Device {
         let (core, reply) = boot_stored(alloc, rows, order, mounter)?;
         *self = Device::On(core);
         Ok(reply)
-    }
-
-    /// A call of a script is prepared, and happens to a device that is on, as the turn of this row. After an error the
-    /// device may be of the worlds that it was of before.
-    pub fn call(
-        &mut self,
-        alloc: Global,
-        row: &TurnRow,
-        call: &CallRef,
-    ) -> Result<Reply, AllocError>
-        requires on { IsOn self.old }
-        requires built { IsBuilt (call_at call.now) }
-        ensures reply { (w : World) → IsDeviceOf self.old w
-            → IfOk result (λ reply. reply ≡ (step w (call_at call.now)).reply) }
-        ensures leads { (w : World) → IsDeviceOf self.old w
-            → OnOk result (IsDeviceOf self.new (step w (call_at call.now)).world) }
-        ensures stays { (w : World) → IsDeviceOf self.old w → OnErr result (IsDeviceOf self.new w) }
-        ensures on { IsOn self.new }
-    {
-        match self.act(alloc, row, prepared(alloc, call)) {
-            Answer::Answered(reply) => Ok(reply),
-            Answer::NoMemory { .. } => Err(AllocError),
-        }
     }
 
     /// A call happens to a device that is on, as the turn of this row. Where memory runs out, it may be of the worlds that

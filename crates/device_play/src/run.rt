@@ -1,7 +1,9 @@
 //! A run: what it keeps, and how a turn enters its history. `enter_turn` is the commit point.
+use crate::calls::prepared;
 use crate::device::Device;
 use crate::mounts::AllBut;
-use apex_world::{BootReply, CallRef, Reply, ScriptBoot, TurnRow, Turns};
+use apex_core::Answer;
+use apex_world::{BootReply, CallRef, ScriptBoot, TurnRow, Turns};
 use play_text::TurnText;
 use std::alloc::{AllocError, Global};
 
@@ -16,6 +18,7 @@ pub struct Run {
 impl Run {
     ghost use Rattle.std.specs.Prelude.{◌≡◌, ◌<◌, ◌+◌, ◌++◌, ◌^◌, ◌∷◌, [], IfOk, OnErr, OnOk, vec_capacity, vec_len};
     ghost use Rattle.apex_base.specs.declared.numbers.Scale.{Scale};
+    ghost use Rattle.apex_core.specs.Prepared.{IfAnswered, IfNoMemory};
     ghost use Rattle.apex_world.specs.declared.turns.Shown.TheVariants.{Booted, Replied};
     ghost use Rattle.apex_world.specs.Calls.{call_at};
     ghost use Rattle.apex_world.specs.Fold.{BootOf, CallOf, turned_by};
@@ -45,26 +48,25 @@ impl Run {
 
     /// A call happens, and its turn enters with the reply that it got. Where memory runs out no turn enters. Room for
     /// the turn is taken first, so that nothing happens that the history couldn't hold.
-    pub(crate) fn enter_call(
-        &mut self,
-        alloc: Global,
-        row: TurnRow,
-        call: &CallRef,
-    ) -> Result<Reply, AllocError>
+    pub(crate) fn enter_call(&mut self, alloc: Global, row: TurnRow, call: &CallRef) -> Answer
         requires built { IsBuilt (call_at call.now) }
         requires on { IsOn self.old.device }
         ensures reply { (w : World) → IsDeviceOf self.old.device w
-            → IfOk result (λ reply. Replied reply ≡ (turned_by w (CallOf (call_at call.now))).shown) }
+            → IfAnswered result (λ reply. Replied reply ≡ (turned_by w (CallOf (call_at call.now))).shown) }
         ensures leads { (w : World) → IsDeviceOf self.old.device w
-            → OnOk result (IsDeviceOf self.new.device (turned_by w (CallOf (call_at call.now))).world) }
-        ensures turn { OnOk result (self.new.turns.items ≡ self.old.turns.items ++ row ∷ []) }
-        ensures no_turn { OnErr result (self.new.turns.items ≡ self.old.turns.items) }
-        ensures on { OnOk result (IsOn self.new.device) }
+            → IfAnswered result (λ _. IsDeviceOf self.new.device (turned_by w (CallOf (call_at call.now))).world) }
+        ensures turn { IfAnswered result (λ _. self.new.turns.items ≡ self.old.turns.items ++ row ∷ []) }
+        ensures no_turn { IfNoMemory result (λ _. self.new.turns.items ≡ self.old.turns.items) }
+        ensures on { IfAnswered result (λ _. IsOn self.new.device) }
     {
-        self.turns.reserve(1)?;
-        let reply = self.device.call(alloc, &row, call)?;
-        self.enter_turn(row);
-        Ok(reply)
+        if self.turns.reserve(1).is_err() {
+            return Answer::NoMemory { entered: false };
+        }
+        let answer = self.device.act(alloc, &row, prepared(alloc, call));
+        if let Answer::Answered(_) = &answer {
+            self.enter_turn(row);
+        }
+        answer
     }
 
     /// A boot happens, and its turn enters with the reply that it got; else as `enter_call`.

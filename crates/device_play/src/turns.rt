@@ -1,6 +1,7 @@
 //! Plays the turns of a script, the lanes of a segment one after the other.
 use crate::run::Run;
 use apex_base::Sink;
+use apex_core::Answer;
 use apex_world::{CallRef, Fate, Lane, Placed, Script, ScriptBoot, Segment, SegmentForm, TurnRow};
 use play_text::PutFailed;
 use std::alloc::Global;
@@ -255,7 +256,9 @@ impl Run {
             step,
             fate: Fate::Answered,
         };
-        let reply = self.enter_call(alloc, row, call)?;
-        self.text.reply_line(alloc, sink, &row, &reply)
+        match &self.enter_call(alloc, row, call) {
+            Answer::Answered(reply) => self.text.reply_line(alloc, sink, &row, reply),
+            Answer::NoMemory { .. } => Err(PutFailed::NoMemory),
+        }
     }
 }

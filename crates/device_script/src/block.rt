@@ -32,7 +32,7 @@ impl Block {
     pub fn put(&mut self, path: FilePath, content: Bytes) -> Result<(), LineError>
         ensures { Becomes result self.new (file_put self.old path content) }
     {
-        match self.content.put(path, content.into_vec()) {
+        match self.content.put(path, content) {
             Ok(()) => Ok(()),
             Err(PutWhy::NoMemory) => Err(LineError::NoMemory),
             Err(_) => Err(LineError::Fault(LineFault::Full)),

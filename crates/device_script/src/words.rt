@@ -8,9 +8,7 @@ ghost use Rattle.device_script.specs.Words.{cut_at_space, cut_word};
 
 mod hexadecimal;
 
-use apex_base::{
-    Bytes, Listed, Millis, Name, Scale, SessionId, Version, position_in_word, position_of,
-};
+use apex_base::{Bytes, Millis, Name, Scale, SessionId, Version, position_in_word, position_of};
 use hexadecimal::bytes_of;
 use std::alloc::{AllocError, Global};
 
@@ -93,9 +91,12 @@ pub fn content(alloc: Global, word: &[u8]) -> Result<Option<Bytes>, AllocError>
     ensures { IfOk result (λ content. content ≡ content_of word.now) }
 {
     if word == b"-".as_slice() {
-        return Ok(Some(Listed::new(alloc)));
+        return Ok(Some(Bytes::new(alloc)));
     }
-    Ok(bytes_of(alloc, word)?.map(Listed::of))
+    match bytes_of(alloc, word)? {
+        Some(bytes) => Ok(Some(Bytes::shared(alloc, bytes)?)),
+        None => Ok(None),
+    }
 }
 
 /// How a module is named: `$LABEL` or `NAME@VERSION`.

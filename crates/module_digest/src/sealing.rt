@@ -6,7 +6,7 @@ ghost use Rattle.module_digest.specs.Faults.{listing_fault};
 
 use crate::digits::{digest_of, digits_of};
 use crate::known::known;
-use apex_base::{FilePath, Module, PutWhy};
+use apex_base::{Bytes, FilePath, Module, PutWhy};
 use std::alloc::{AllocError, Global};
 
 /// The listing that the module should have: one line for each file but the listing itself, ascending by path. A
@@ -34,13 +34,21 @@ pub fn seal(alloc: Global, directory: &mut Module) -> Result<(), PutWhy>
     ensures refused { IfErr result (λ why. why ≢ put.NoMemory → seal_fault directory.old ≡ Some why) }
     ensures unchanged { OnErr result (directory.new ≡ directory.old) }
 {
-    let Ok(text) = listing(alloc, directory) else {
+    let Ok(text) = listing_bytes(alloc, directory) else {
         return Err(PutWhy::NoMemory);
     };
     known(directory);
     directory.put(FilePath::listing(), text)?;
     known(directory);
     Ok(())
+}
+
+/// The listing as a file of the module.
+fn listing_bytes(alloc: Global, directory: &Module) -> Result<Bytes, AllocError>
+    ensures { IfOk result (λ text. text ≡ listing directory.now) }
+{
+    let text = listing(alloc, directory)?;
+    Bytes::shared(alloc, text)
 }
 
 #[tactic(auto, unfolding(crate::specs::Listing::listing_line))]

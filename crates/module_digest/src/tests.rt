@@ -1,7 +1,7 @@
 //! What no clause says: that calls with memory succeed, and what the definitions say of worked examples. The
 //! digests were got by `printf '' | sha256sum`, `printf abc | sha256sum` and the like.
 use crate::{CheckWhy, check_listing, listing, seal};
-use apex_base::{FilePath, Module, ModuleFault};
+use apex_base::{Bytes, FilePath, Module, ModuleFault};
 use std::alloc::Global;
 use std::test::Fail;
 
@@ -37,7 +37,7 @@ fn joined(alloc: Global, pieces: &[&str]) -> Result<Vec<u8>, Fail> {
 
 fn put(alloc: Global, directory: &mut Module, name: &str, pieces: &[&str]) -> Result<(), Fail> {
     let bytes = joined(alloc, pieces)?;
-    if directory.put(path(name), bytes).is_err() {
+    if directory.put(path(name), Bytes::of(bytes)).is_err() {
         return Err(Fail::new("a file was refused"));
     }
     Ok(())

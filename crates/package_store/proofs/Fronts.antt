@@ -1,12 +1,16 @@
--- Keys of files: what stands under a front, and how such keys compare.
+-- Keys that begin alike, and keys of files: what stands under a front, and how such keys compare. Callers want
+-- `front_le`, `between`, `path_there`, `key_of_path` and `same_path`.
 use Rattle.std.proofs.Common.{◌≡◌, ℕ, List, [], ◌∷◌, ◌++◌, Bool, true, false, cond, take, drop, Some, None, sym, ap}
 use Rattle.std.proofs.Common.{◌∙◌, refl}
 use Rattle.std.proofs.lemmas.List.{take-append-drop}
 use Rattle.std.proofs.lemmas.Slice.Eq.{bytes_eq-Decides}
 use Rattle.std.specs.Cmp.{tied_itself, nat_cmp_total}
 use Rattle.std.specs.Cmp.Lexicographic.{slice_cmp}
-use Rattle.std.specs.Ordering.{nat_cmp, is_eq}
+use Rattle.std.specs.FinMap.{nat_cmp-IsAntisymmetric}
+use Rattle.std.specs.Ordering.{nat_cmp, is_eq, is_le, ordering_then, ordering_reverse}
 use Rattle.std.specs.Str.{bytes_eq}
+use Rattle.std.specs.declared.cmp.Ordering.{Ordering}
+use Rattle.std.specs.declared.cmp.Ordering.TheVariants.{Less, Equal, Greater}
 use Rattle.apex_base.specs.declared.numbers.SessionId.{SessionId}
 use Rattle.apex_base.specs.Keys.{file_front}
 use Rattle.package_store.specs.Placed.{path_in}
@@ -14,6 +18,34 @@ use Rattle.package_store.proofs.Maps.{same_key}
 
 some_is : {A : Type 0} (x y : A) → Some x ≡ Some y → x ≡ y
 some_is x y e = cc
+
+-- these bytes come no later than the key
+abbrev pub at_least : List ℕ → List ℕ → Bool
+at_least front key = is_le (slice_cmp nat_cmp front key)
+
+-- they come no later than what begins with them
+pub front_le : (front rest : List ℕ) → at_least front (front ++ rest) ≡ true
+front_le [] [] = refl
+front_le [] (x ∷ rest) = refl
+front_le (x ∷ front) rest = rw (tied_itself nat_cmp_total x) (front_le front rest)
+
+step_if : (o p a b : Ordering) → p ≡ ordering_reverse o → is_le (ordering_then o a) ≡ true
+    → ordering_then p b ≡ Less → (o ≡ Equal) × (is_le a ≡ true) × (b ≡ Less)
+step_if Less p a b e le lt =
+    let above : ordering_then Greater b ≡ Less = ap (λ q. ordering_then q b) (sym e) ∙ lt in absurd (cc)
+step_if Equal p a b e le lt = (refl, le, ap (λ q. ordering_then q b) (sym e) ∙ lt)
+step_if Greater p a b e le lt = absurd (cc)
+
+-- a key between these bytes and one that begins with them begins with them
+pub between : (front key rest : List ℕ) → at_least front key ≡ true → slice_cmp nat_cmp key (front ++ rest) ≡ Less
+    → (tail : List ℕ) × (key ≡ front ++ tail)
+between [] key rest le lt = (key, refl)
+between (x ∷ front) [] rest le lt = absurd (cc)
+between (x ∷ front) (y ∷ key) rest le lt =
+    let (same, a, b) = step_if (nat_cmp x y) (nat_cmp y x) (slice_cmp nat_cmp front key)
+    (slice_cmp nat_cmp key (front ++ rest)) (nat_cmp_total.antisymm y x) le lt in
+    let (tail, e) = between front key rest a b in
+    (tail, ap (λ z. z ∷ key) (sym (nat_cmp-IsAntisymmetric x y same)) ∙ ap (λ ys. x ∷ ys) e)
 
 -- keys that begin alike compare as what follows
 pub front_cmp : (front a b : List ℕ) → slice_cmp nat_cmp (front ++ a) (front ++ b) ≡ slice_cmp nat_cmp a b

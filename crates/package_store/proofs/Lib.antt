@@ -1,14 +1,17 @@
 mod Filed
-mod Fronts
+pub mod FilesRead
+pub mod Fronts
 mod HeldNames
 mod KeptModules
+mod LastBefore
 mod LatestParts
-mod Maps
+pub mod Maps
 mod NameNotes
 mod Noted
 pub mod Parts
 mod Placements
 mod RowNotes
 mod RowSteps
+pub mod RowsFrom
 mod SettledKeys
 mod Sums

@@ -12,11 +12,12 @@ use Rattle.std.specs.List.{AllByRecursion}
 use Rattle.std.specs.List.Sorted.{IsStrictlySortedBy}
 use Rattle.std.specs.Map.{keys_of, lookup, KeepsOthers}
 use Rattle.std.specs.BTreeMap.{is_at}
-use Rattle.std.specs.Ordering.{nat_cmp, is_eq, eq_by_cmp}
+use Rattle.std.specs.Ordering.{nat_cmp, is_eq, is_lt, eq_by_cmp}
 use Rattle.std.specs.declared.alloc.Global.{Global}
 use Rattle.std.specs.declared.cmp.Ordering.{Ordering}
-use Rattle.std.specs.declared.cmp.Ordering.TheVariants.{Less}
+use Rattle.std.specs.declared.cmp.Ordering.TheVariants.{Less, Equal, Greater}
 use Rattle.std.specs.declared.vec.Vec.{Vec}
+use Rattle.std.proofs.lemmas.Bool.{and_parts}
 use Rattle.apex_base.specs.Keys.{RowMap}
 use Rattle.apex_base.specs.Tables.{NameMap}
 use Rattle.apex_base.proofs.RowMaps.{same_bytes, same_names}
@@ -55,6 +56,11 @@ pub not_below : {X : Type 0} (key : List ℕ) (es : List (List ℕ × X))
     → AllByRecursion (λ k. slice_cmp nat_cmp key k ≡ Less) (keys_of es) → fin.find (slice_cmp nat_cmp) key es ≡ None
 not_below key [] all = refl
 not_below key (e ∷ es) all = rw all.0 (not_below key es all.1)
+
+is_less : (o : Ordering) → is_lt o ≡ true → o ≡ Less
+is_less Less e = refl
+is_less Equal e = absurd (cc)
+is_less Greater e = absurd (cc)
 
 is_T : (b : Bool) → IsTrue b → T b
 is_T true e = tt
@@ -111,6 +117,18 @@ module _ {X : Type 0} where
   pub entries_again : (m : NameMap X) → fin.from_entries (fin.entries m) ≡ m
   entries_again m = same_names (fin.from_entries (fin.entries m)) m
       (λ q. get-from_entries nat_list_cmp_total (fin.entries m) q ∙ sym (get-entries m q))
+
+  below_keys : (key : List ℕ) (es : List (List ℕ × X)) → below_all (slice_cmp nat_cmp) key es ≡ true
+      → AllByRecursion (λ q. slice_cmp nat_cmp key q ≡ Less) (keys_of es)
+  below_keys key [] e = tt
+  below_keys key (x ∷ es) e = let (a, b) = and_parts _ _ e in (is_less _ a, below_keys key es b)
+
+  -- the keys of entries in order ascend
+  pub ascend : (es : List (List ℕ × X)) → is_sorted (slice_cmp nat_cmp) es ≡ true
+      → IsStrictlySortedBy (slice_cmp nat_cmp) (keys_of es)
+  unfolding IsStrictlySortedBy
+  ascend [] e = tt
+  ascend (x ∷ es) e = let (a, b) = and_parts _ _ e in (below_keys x.0 es a, ascend es b)
 
   not_above : (key : List ℕ) (es : List (List ℕ × X))
       → AllByRecursion (λ q. slice_cmp nat_cmp key q ≡ Less) (keys_of es)

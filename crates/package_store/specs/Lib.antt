@@ -1,3 +1,4 @@
+pub mod Earlier
 pub mod Keeping
 pub mod Latest
 pub mod Named

@@ -1,15 +1,18 @@
 //! Which modules are kept.
-ghost use Rattle.std.specs.Prelude.{◌≡◌, ◌||◌, ℕ, IfOk, OnOk, fold};
+ghost use Rattle.std.specs.Prelude.{◌≡◌, ◌||◌, ℕ, List, IfOk, OnOk, fold};
 ghost use Rattle.std.specs.BTreeMap.{IsOrdered};
 ghost use Rattle.std.specs.Cmp.Lexicographic.{slice_cmp};
 ghost use Rattle.std.specs.Ordering.{nat_cmp};
 ghost use Rattle.apex_base.specs.declared.numbers.SessionId.{SessionId as Id};
+ghost use Rattle.apex_base.specs.declared.records.Record.{Record as Session};
 ghost use Rattle.apex_base.specs.Held.{is_module, is_target, kept};
+ghost use Rattle.package_store.specs.Earlier.{AreEarlier};
 ghost use Rattle.package_store.specs.Latest.{AreHeld};
 ghost use Rattle.package_store.specs.Keeping.{has_part, keep_held, keep_for};
 
+use crate::earlier::EarlierTargets;
 use crate::held::HeldByName;
-use apex_base::{Part, Record, RollbackState, SessionId, Target, before};
+use apex_base::{Part, Record, RollbackState, SessionId, Target};
 use std::alloc::{AllocError, Global};
 use std::collections::BTreeSet;
 
@@ -20,10 +23,26 @@ pub struct KeptParts {
 }
 
 impl KeptParts {
-    /// The modules that the sessions keep, by what all names hold. It goes over the sessions once, and once more for
-    /// each part of a session that can be undone or rolled back. Fails only if memory runs out.
+    /// The modules that the sessions keep, by what all names hold. It goes over the sessions twice, and looks up what
+    /// a name held for each part of a session that can be undone or rolled back. Fails only if memory runs out.
     pub fn of(alloc: Global, records: &[Record], held: &HeldByName) -> Result<Self, AllocError>
         requires { AreHeld records.now held.now }
+        ensures { IfOk result (λ parts. (session : Id) (part : ℕ)
+            → has_part parts session part ≡ is_target (kept records.now) session part) }
+    {
+        let earlier = EarlierTargets::of(alloc, records)?;
+        KeptParts::by_targets(alloc, records, held, &earlier)
+    }
+
+    /// The same, by what names held before each boot too. It goes over the sessions once.
+    pub(crate) fn by_targets(
+        alloc: Global,
+        records: &[Record],
+        held: &HeldByName,
+        earlier: &EarlierTargets,
+    ) -> Result<Self, AllocError>
+        requires held { AreHeld records.now held.now }
+        requires earlier { AreEarlier records.now earlier.now }
         ensures { IfOk result (λ parts. (session : Id) (part : ℕ)
             → has_part parts session part ≡ is_target (kept records.now) session part) }
     {
@@ -32,7 +51,7 @@ impl KeptParts {
         };
         parts.add_held(held)?;
         for r in records {
-            parts.add_session(records, r)?;
+            parts.add_session(earlier, r)?;
         }
         Ok(parts)
     }
@@ -56,25 +75,27 @@ impl KeptParts {
     }
 
     /// What a session keeps beside what its names hold.
-    fn add_session(&mut self, records: &[Record], r: &Record) -> Result<(), AllocError>
-        ensures { OnOk result ((session : Id) (part : ℕ) → has_part self.new session part
-            ≡ fold (keep_for records.now r.now session part) (has_part self.old session part) r.now.parts) }
+    fn add_session(&mut self, earlier: &EarlierTargets, r: &Record) -> Result<(), AllocError>
+        ensures { OnOk result ((records : List Session) → AreEarlier records earlier.now → (session : Id) (part : ℕ)
+            → has_part self.new session part
+            ≡ fold (keep_for records r.now session part) (has_part self.old session part) r.now.parts) }
     {
         for p in r.parts.as_slice() {
-            self.add_for(records, r, p)?;
+            self.add_for(earlier, r, p)?;
         }
         Ok(())
     }
 
-    fn add_for(&mut self, records: &[Record], r: &Record, p: &Part) -> Result<(), AllocError>
-        ensures { OnOk result ((session : Id) (part : ℕ) → has_part self.new session part
-            ≡ keep_for records.now r.now session part (has_part self.old session part) p.now) }
+    fn add_for(&mut self, earlier: &EarlierTargets, r: &Record, p: &Part) -> Result<(), AllocError>
+        ensures { OnOk result ((records : List Session) → AreEarlier records earlier.now → (session : Id) (part : ℕ)
+            → has_part self.new session part
+            ≡ keep_for records r.now session part (has_part self.old session part) p.now) }
     {
         if r.state.is_unfinished() {
             self.add(p.target)?;
         }
         if r.state.is_undoable() || RollbackState::is_available(r.rollback) {
-            self.add(before(records, r, &p.name))?;
+            self.add(earlier.before(r, &p.name))?;
         }
         Ok(())
     }

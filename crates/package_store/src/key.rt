@@ -4,7 +4,7 @@ ghost use Rattle.apex_base.specs.Keys.{file_front};
 ghost use Rattle.apex_base.specs.Spelling.{target_text};
 ghost use Rattle.package_store.specs.Settled.{HasPart};
 
-use apex_base::{Bytes, Listed, Name, SessionId, Target};
+use apex_base::{Bytes, Name, SessionId, Target};
 use std::alloc::{AllocError, Global};
 
 /// The tag of the rows of the targets that names hold.
@@ -45,7 +45,17 @@ pub(crate) fn target_row(alloc: Global, target: Target) -> Result<Bytes, AllocEr
             value.extend_from_slice(&version.number().to_be_bytes())?;
         }
     }
-    Ok(Listed::of(value))
+    Ok(Bytes::of(value))
+}
+
+/// The first bytes of the keys of the files of a module: the tag of files, the session that submitted it in four bytes,
+/// and the number of its part there in one. What follows in a key is the file's path.
+pub fn file_front(session: SessionId, part: u32) -> [u8; 6]
+    requires { part < 256 }
+    ensures { result ≡ file_front session part [] }
+{
+    let [a, b, c, d] = session.0.to_be_bytes();
+    [FILE, a, b, c, d, part as u8]
 }
 
 /// The key of a file.
@@ -59,9 +69,7 @@ pub(crate) fn file_key(
     ensures { IfOk result (λ key. key.items ≡ file_front session part path.now) }
 {
     let mut key = Vec::with_capacity(alloc, 6)?;
-    key.push(FILE)?;
-    key.extend_from_slice(&session.0.to_be_bytes())?;
-    key.push(part as u8)?;
+    key.extend_from_slice(&file_front(session, part))?;
     key.extend_from_slice(path)?;
     Ok(key)
 }

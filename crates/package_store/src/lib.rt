@@ -2,6 +2,7 @@
 #![tactic(auto)]
 
 mod changes;
+mod earlier;
 mod held;
 mod kept;
 mod key;
@@ -16,8 +17,9 @@ mod weight;
 
 pub use held::{HeldByName, held_by_name, target_of_name};
 pub use kept::KeptParts;
+pub use key::file_front;
 pub use laws::{rows_are_those_shown, settled_by_key};
 pub use placing::put;
-pub use reading::module_of;
+pub use reading::{module_of, path_in};
 pub use settling::{settle, settle_held};
 pub use weight::kept_weight;

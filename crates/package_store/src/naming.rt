@@ -4,33 +4,38 @@ ghost use Rattle.std.specs.BTreeMap as tree;
 ghost use Rattle.std.specs.Cmp.Lexicographic.{slice_cmp};
 ghost use Rattle.std.specs.FinMap as fin;
 ghost use Rattle.std.specs.Ordering.{nat_cmp};
+ghost use Rattle.apex_base.specs.declared.records.Record.{Record as Session};
 ghost use Rattle.apex_base.specs.Held.{target_of};
+ghost use Rattle.package_store.specs.Earlier.{AreEarlier};
 ghost use Rattle.package_store.specs.Latest.{AreHeld};
 ghost use Rattle.package_store.specs.Named.{note_active, note_held, note_backup, note_backups};
 ghost use Rattle.package_store.specs.Settled.{HasPart, HaveParts, settled};
 ghost use Rattle.package_store.specs.Spelled.{change_to};
 
 use crate::changes::Changes;
+use crate::earlier::EarlierTargets;
 use crate::held::HeldByName;
 use crate::key::{ACTIVE, BACKUP, name_key, target_row};
-use apex_base::{Name, Record, Target, before};
+use apex_base::{Name, Record, Target};
 use std::alloc::{AllocError, Global};
 
-/// What all sessions call for.
+/// What all sessions call for. It goes over them once, and looks up what names held.
 pub(crate) fn name_changes(
     alloc: Global,
     records: &[Record],
     held: &HeldByName,
+    earlier: &EarlierTargets,
 ) -> Result<Changes, AllocError>
     requires parts { HaveParts records.now }
     requires held { AreHeld records.now held.now }
+    requires earlier { AreEarlier records.now earlier.now }
     ensures { IfOk result (λ changes. (key : List ℕ)
         → fin.get changes key ≡ change_to None (settled records.now key None)) }
 {
     let mut changes = active_changes(alloc, held)?;
     for r in records {
         if r.state.is_undoable() {
-            add_backups(alloc, &mut changes, records, r)?;
+            add_backups(alloc, &mut changes, earlier, r)?;
         }
     }
     Ok(changes)
@@ -69,15 +74,15 @@ fn add_active(
 fn add_backups(
     alloc: Global,
     changes: &mut Changes,
-    records: &[Record],
+    earlier: &EarlierTargets,
     r: &Record,
 ) -> Result<(), AllocError>
-    requires { HaveParts records.now }
-    ensures { OnOk result ((key : List ℕ)
-        → fin.get changes.new key ≡ note_backups records.now r.now key (fin.get changes.old key)) }
+    requires { (records : List Session) × HaveParts records × AreEarlier records earlier.now }
+    ensures { OnOk result ((records : List Session) → AreEarlier records earlier.now → (key : List ℕ)
+        → fin.get changes.new key ≡ note_backups records r.now key (fin.get changes.old key)) }
 {
     for p in r.parts.as_slice() {
-        add_backup(alloc, changes, records, r, &p.name)?;
+        add_backup(alloc, changes, earlier, r, &p.name)?;
     }
     Ok(())
 }
@@ -85,18 +90,18 @@ fn add_backups(
 fn add_backup(
     alloc: Global,
     changes: &mut Changes,
-    records: &[Record],
+    earlier: &EarlierTargets,
     r: &Record,
     name: &Name,
 ) -> Result<(), AllocError>
-    requires { HaveParts records.now }
-    ensures { OnOk result ((key : List ℕ)
-        → fin.get changes.new key ≡ note_backup records.now r.now name.now key (fin.get changes.old key)) }
+    requires { (records : List Session) × HaveParts records × AreEarlier records earlier.now }
+    ensures { OnOk result ((records : List Session) → AreEarlier records earlier.now → (key : List ℕ)
+        → fin.get changes.new key ≡ note_backup records r.now name.now key (fin.get changes.old key)) }
 {
     let key = name_key(alloc, BACKUP, name)?;
     if changes.has(&key) {
         return Ok(());
     }
-    let value = target_row(alloc, before(records, r, name))?;
+    let value = target_row(alloc, earlier.before(r, name))?;
     changes.put(key, Some(value))
 }

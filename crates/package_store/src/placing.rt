@@ -51,7 +51,7 @@ fn file_row(
     ensures { IfOk result (λ row. row ≡ file_change session part (path.now, content.now)) }
 {
     let key = Listed::of(file_key(alloc, session, part, path.as_bytes())?);
-    let value = Listed::of(Vec::from_slice(alloc, content.as_slice())?);
+    let value = content.share(alloc)?;
     Ok(Row {
         key,
         value: Some(value),

@@ -7,6 +7,7 @@ ghost use Rattle.apex_base.specs.Text.{is_path};
 ghost use Rattle.row_map.specs.Rows.{rows_of};
 ghost use Rattle.package_store.specs.Placed.{path_in};
 
+use crate::key::FILE;
 use apex_base::{Bytes, FilePath, Module, PutWhy, SessionId};
 use std::alloc::{AllocError, Global};
 use std::collections::BTreeMap;
@@ -24,20 +25,22 @@ pub fn module_of(
     let mut files = Module::new(alloc);
     for (key, content) in rows {
         if let Some(path) = path_in(session, part, key) {
-            add_file(alloc, &mut files, path, content.as_slice())?;
+            add_file(alloc, &mut files, path, content)?;
         }
     }
     Ok(files)
 }
 
-fn path_in(session: SessionId, part: u32, key: &[u8]) -> Option<&[u8]>
+/// The path in the key of a file, if it is one of the module that this part of a session submitted; None for each other
+/// key.
+pub fn path_in(session: SessionId, part: u32, key: &[u8]) -> Option<&[u8]>
     ensures { option_map (λ path. path.now) result ≡ path_in session part key.now }
 {
     let Some((front, path)) = key.split_first_chunk::<6>() else {
         return None;
     };
     let [tag, a, b, c, d, number] = *front;
-    if tag == 5 && [a, b, c, d] == session.0.to_be_bytes() && u32::from(number) == part {
+    if tag == FILE && [a, b, c, d] == session.0.to_be_bytes() && u32::from(number) == part {
         Some(path)
     } else {
         None
@@ -49,7 +52,7 @@ fn add_file(
     alloc: Global,
     files: &mut Module,
     path: &[u8],
-    content: &[u8],
+    content: &Bytes,
 ) -> Result<(), AllocError>
     requires named { IsTrue (is_path path.now) }
     requires fits { put_fault files.old path.now content.now ≡ None }
@@ -58,8 +61,7 @@ fn add_file(
     let Some(path) = FilePath::read(path) else {
         unreachable!()
     };
-    let content = Vec::from_slice(alloc, content)?;
-    match files.put(path, content) {
+    match files.put(path, content.share(alloc)?) {
         Ok(()) => Ok(()),
         Err(PutWhy::NoMemory) => Err(AllocError),
         Err(PutWhy::Files) => unreachable!(),

@@ -14,6 +14,7 @@ ghost use Rattle.package_store.specs.Named.{note_row, resettled};
 ghost use Rattle.package_store.specs.Settled.{settled_value, IsChange, HaveParts};
 
 use crate::changes::Changes;
+use crate::earlier::EarlierTargets;
 use crate::held::{HeldByName, held_by_name};
 use crate::kept::KeptParts;
 use crate::key::{ACTIVE, BACKUP, FILE};
@@ -64,8 +65,9 @@ pub fn settle_held(
     ensures exact { IfOk result (λ changes. AllByRecursion (IsChange (rows_of rows.now.entries)) changes.items) }
     ensures ascending { IfOk result (λ changes. IsStrictlySortedBy (slice_cmp nat_cmp) (keys_of changes.items)) }
 {
-    let mut changes = name_changes(alloc, records, held)?;
-    let kept = KeptParts::of(alloc, records, held)?;
+    let earlier = EarlierTargets::of(alloc, records)?;
+    let mut changes = name_changes(alloc, records, held, &earlier)?;
+    let kept = KeptParts::by_targets(alloc, records, held, &earlier)?;
     for (key, value) in rows {
         settle_row(alloc, &mut changes, &kept, key, value.as_slice())?;
     }

@@ -2,8 +2,8 @@
 //! `docs/formats/text.md`.
 use crate::TurnText;
 use apex_base::{
-    Case, Cause, Listed, MemSink, Name, Pick, Place, Refusal, RollbackState, SessionId, State,
-    Version,
+    Bytes, Case, Cause, Listed, MemSink, Name, Pick, Place, Refusal, RollbackState, SessionId,
+    State, Version,
 };
 use apex_world::{BootReply, Changed, Fate, Reply, Shown, TurnRow};
 use std::alloc::Global;
@@ -81,7 +81,7 @@ fn refusals_are_printed(rt: HostRuntime) -> Result<(), Fail> {
 fn replies(alloc: Global) -> Result<Vec<(Reply, &'static str)>, Fail> {
     let mut ids = Listed::new(alloc);
     ids.push(SessionId(1073741825))?;
-    let mut bytes = Listed::new(alloc);
+    let mut bytes = Vec::new(alloc);
     bytes.push(1)?;
     bytes.push(171)?;
     let available = Some(RollbackState::Available);
@@ -91,8 +91,8 @@ fn replies(alloc: Global) -> Result<Vec<(Reply, &'static str)>, Fail> {
         Reply::Committed(SessionId(1073741829)),
         "committed 1073741829",
     ))?;
-    cases.push((Reply::Value(bytes), "value 01ab"))?;
-    cases.push((Reply::Value(Listed::new(alloc)), "value -"))?;
+    cases.push((Reply::Value(Bytes::of(bytes)), "value 01ab"))?;
+    cases.push((Reply::Value(Bytes::new(alloc)), "value -"))?;
     cases.push((Reply::State(State::Activated, None), "state ACTIVATED"))?;
     cases.push((
         Reply::State(State::Success, available),

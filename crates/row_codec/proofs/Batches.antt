@@ -4,8 +4,10 @@ use Rattle.std.specs.Prelude.{IfSome, IfNone}
 use Rattle.std.specs.Int.{w32, w64, to_be_bytes}
 use Rattle.std.specs.List.{flat_map}
 use Rattle.row_codec.specs.declared.batch.Batch.{Batch}
-use Rattle.row_codec.specs.Batch.{IsBatch, Spells, row_text, batch_text, ◌>>=◌, number_at, rows_of, batch_of}
-use Rattle.row_codec.proofs.Fields.{bind_some, AreBytes, wide32, wide64, number_takes, number_again}
+use Rattle.apex_base.specs.Reading.{◌>>=◌, number_at}
+use Rattle.row_codec.specs.Batch.{IsBatch, Spells, row_text, batch_text, rows_of, batch_of}
+use Rattle.apex_base.proofs.ByteLists.{AreBytes}
+use Rattle.row_codec.proofs.Fields.{bind_some, wide32, wide64, number_takes, number_again}
 use Rattle.row_codec.proofs.Rows.{all_above_empty, rows_take, rows_again, rows_count}
 
 some_is : {A : Type 0} (x y : A) → Some x ≡ Some y → x ≡ y

@@ -1,10 +1,12 @@
 -- Numbers, keys and values: what is read was spelled so, and what is spelled so is read.
-use Rattle.std.proofs.Common.{◌≡◌, ℕ, suc, ◌+◌, ◌^◌, ◌<◌, ◌≤◌, Bool, true, false, cond, ltb, List, [], ◌∷◌, ◌++◌, length, get_or, take, drop, Option, Some, None, refl, sym, ap, subst, ◌∙◌, append_assoc, arith, inl, inr}
+use Rattle.std.proofs.Common.{◌≡◌, ℕ, ◌+◌, ◌^◌, ◌<◌, ◌≤◌, Bool, true, false, cond, ltb, List, [], ◌∷◌, ◌++◌, length, take, drop, Option, Some, None, refl, sym, ap, subst, ◌∙◌, append_assoc, arith}
 use Rattle.std.specs.Int.{Width, w32, w64, byte_len, from_be_bytes, to_be_bytes}
-use Rattle.std.proofs.lemmas.Bool.{cases_lt, ltb-false, le-ltb}
-use Rattle.std.proofs.lemmas.List.{take_at, drop_at, take-append-drop, length-append, length-take, get_or-drop, get_or-take, get_or_past}
+use Rattle.std.proofs.lemmas.Bool.{ltb-false, le-ltb}
+use Rattle.std.proofs.lemmas.List.{take_at, drop_at, take-append-drop, length-append, length-take}
 use Rattle.std.proofs.lemmas.Nat.{be_bytes_4, be_bytes_8, from_be_bytes-to_be_bytes_4, from_be_bytes-to_be_bytes_8}
-use Rattle.row_codec.specs.Batch.{◌>>=◌, bytes_at, number_at, key_at, value_at}
+use Rattle.apex_base.specs.Reading.{◌>>=◌, bytes_at, number_at, short_at}
+use Rattle.apex_base.proofs.ByteLists.{AreBytes, AreBytes-drop, AreBytes-take, AreBytes-rest}
+use Rattle.row_codec.specs.Batch.{value_at}
 
 -- Steps
 
@@ -21,24 +23,6 @@ refused_if false x y e = (refl, cc)
 pub taken_if : {A : Type 0} (b : Bool) (x y : A) → cond b (Some x) None ≡ Some y → (b ≡ true) × (x ≡ y)
 taken_if true x y e = (refl, cc)
 taken_if false x y e = absurd cc
-
--- Bytes
-
-abbrev pub AreBytes : List ℕ → Type 0
-AreBytes bytes = (i : ℕ) → get_or bytes i 0 < 256
-
-AreBytes-drop : (n : ℕ) (bytes : List ℕ) → AreBytes bytes → AreBytes (drop n bytes)
-AreBytes-drop n bytes h i = rw get_or-drop (h (n + i))
-
-AreBytes-take : (n : ℕ) (bytes : List ℕ) → AreBytes bytes → AreBytes (take n bytes)
-AreBytes-take n bytes h i =
-    elim (cases_lt i n) [
-      | inl lt ↦ rw (get_or-take n bytes i 0 lt) (h i)
-      | inr le ↦ rw (get_or_past (take n bytes) i 0 (omega (arith, length-take n bytes))) (omega arith)
-    ]
-
-pub AreBytes-rest : (b : ℕ) (bytes : List ℕ) → AreBytes (b ∷ bytes) → AreBytes bytes
-AreBytes-rest b bytes h i = h (suc i)
 
 -- what a reader took from the front, and what is left
 pub record Takes (bytes text rest : List ℕ) : Type 0 where
@@ -121,9 +105,9 @@ number_again w limit wide n rest lt =
 
 -- Keys and values
 
-pub key_takes : (bytes : List ℕ) (x : List ℕ × List ℕ) → AreBytes bytes → key_at bytes ≡ Some x
+pub key_takes : (bytes : List ℕ) (x : List ℕ × List ℕ) → AreBytes bytes → short_at bytes ≡ Some x
     → Takes bytes (length x.0 ∷ x.0) x.1 × (length x.0 ≤ 255)
-unfolding key_at
+unfolding short_at
 key_takes [] x fits e = absurd cc
 key_takes (n ∷ bytes) x fits e =
     let t = bytes_take n bytes x (AreBytes-rest n bytes fits) e in
@@ -132,8 +116,8 @@ key_takes (n ∷ bytes) x fits e =
     ap (λ (m : ℕ). m ∷ bytes) (sym t.1) ∙ ap (λ (xs : List ℕ). length x.0 ∷ xs) t.0.parts in
     (record { parts = parts; rest_fits = t.0.rest_fits }, omega (arith, t.1))
 
-pub key_again : (key rest : List ℕ) → key_at (length key ∷ key ++ rest) ≡ Some (key, rest)
-unfolding key_at
+pub key_again : (key rest : List ℕ) → short_at (length key ∷ key ++ rest) ≡ Some (key, rest)
+unfolding short_at
 key_again key rest = bytes_again key rest
 
 pub value_takes : (bytes : List ℕ) (x : List ℕ × List ℕ) → AreBytes bytes → value_at bytes ≡ Some x

@@ -3,7 +3,8 @@ use Rattle.std.proofs.Common.{◌≡◌, ℕ, suc, ◌-◌, ◌+◌, ◌≤◌, 
 use Rattle.std.specs.Option.{option_map}
 use Rattle.std.proofs.lemmas.List.{append-nil}
 use Rattle.row_codec.specs.declared.batch.Row.{Row}
-use Rattle.row_codec.specs.Batch.{◌>>=◌, row_above, rows_of}
+use Rattle.apex_base.specs.Reading.{◌>>=◌}
+use Rattle.row_codec.specs.Batch.{row_above, rows_of}
 
 -- the rows that were read before, and those that are still read
 abbrev pub with_front : List Row → Option (List Row) → Option (List Row)

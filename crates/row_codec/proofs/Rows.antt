@@ -12,8 +12,10 @@ use Rattle.std.proofs.lemmas.Bool.{eqb-true}
 use Rattle.std.proofs.lemmas.List.{nil_from_length, length-append}
 use Rattle.std.proofs.lemmas.List.Concat.{flat_map-cons}
 use Rattle.row_codec.specs.declared.batch.Row.{Row}
-use Rattle.row_codec.specs.Batch.{IsRow, keys_of, row_text, ◌>>=◌, key_at, value_at, put_at, delete_at, row_at, row_above, rows_of}
-use Rattle.row_codec.proofs.Fields.{bind_some, taken_if, AreBytes, AreBytes-rest, Takes, key_takes, key_again, value_takes, value_again}
+use Rattle.apex_base.specs.Reading.{◌>>=◌, short_at}
+use Rattle.apex_base.proofs.ByteLists.{AreBytes, AreBytes-rest}
+use Rattle.row_codec.specs.Batch.{IsRow, keys_of, row_text, value_at, put_at, delete_at, row_at, row_above, rows_of}
+use Rattle.row_codec.proofs.Fields.{bind_some, taken_if, Takes, key_takes, key_again, value_takes, value_again}
 
 -- ---- one row
 
@@ -29,7 +31,7 @@ put_takes : (bytes : List ℕ) (x : Row × List ℕ) → AreBytes bytes → put_
     → Takes (1 ∷ bytes) (row_text x.0) x.1 × HasRoom x.0
 unfolding put_at
 put_takes bytes x fits e =
-    let a = bind_some (key_at bytes)
+    let a = bind_some (short_at bytes)
     (λ key. value_at key.1 >>= λ value. Some (record { key = key.0; value = Some value.0 }, value.1)) x e in
     let b = bind_some (value_at a.0.1) (λ value. Some (record { key = a.0.0; value = Some value.0 }, value.1)) x a.2 in
     let k = key_takes bytes a.0 fits a.1 in
@@ -47,7 +49,7 @@ delete_takes : (bytes : List ℕ) (x : Row × List ℕ) → AreBytes bytes → d
     → Takes (2 ∷ bytes) (row_text x.0) x.1 × HasRoom x.0
 unfolding delete_at
 delete_takes bytes x fits e =
-    let a = bind_some (key_at bytes) (λ key. Some (record { key = key.0; value = None }, key.1)) x e in
+    let a = bind_some (short_at bytes) (λ key. Some (record { key = key.0; value = None }, key.1)) x e in
     let k = key_takes bytes a.0 fits a.1 in
     let made : Row × List ℕ = (record { key = a.0.0; value = None }, a.0.1) in
     subst (λ (y : Row × List ℕ). Takes (2 ∷ bytes) (row_text y.0) y.1 × HasRoom y.0) (some_is made x a.2) (

@@ -1,10 +1,11 @@
 -- Batches of rows, and their one spelling in bytes: docs/formats/batches.md.
-use Rattle.std.specs.Prelude.{◌≡◌, ℕ, zero, suc, ◌<◌, ◌≤◌, ◌^◌, ◌==◌, nat_lt, List, [], ◌∷◌, ◌++◌, length, take, drop, map, flat_map, Option, Some, None, IfSome, if◌then◌else◌}
+use Rattle.std.specs.Prelude.{◌≡◌, ℕ, zero, suc, ◌<◌, ◌≤◌, ◌^◌, ◌==◌, List, [], ◌∷◌, ◌++◌, length, map, flat_map, Option, Some, None, IfSome, if◌then◌else◌}
 use Rattle.std.specs.Cmp.Lexicographic.{slice_cmp}
-use Rattle.std.specs.Int.{Width, w32, w64, byte_len, from_be_bytes, to_be_bytes}
+use Rattle.std.specs.Int.{w32, w64, to_be_bytes}
 use Rattle.std.specs.List.{AllByRecursion}
 use Rattle.std.specs.List.Sorted.{IsStrictlySortedBy}
 use Rattle.std.specs.Ordering.{is_lt, nat_cmp}
+use Rattle.apex_base.specs.Reading.{◌>>=◌, bytes_at, number_at, short_at}
 use Rattle.row_codec.specs.declared.batch.Batch.{Batch}
 use Rattle.row_codec.specs.declared.batch.Row.{Row}
 
@@ -47,25 +48,6 @@ pub record Spells (bytes : List ℕ) (batch : Batch) : Type 0 where
 
 -- From bytes to batches: each step gives what it reads, and what follows that
 
-infixl 10 ◌>>=◌
-abbrev pub ◌>>=◌ : {A B : Type 0} → Option A → (A → Option B) → Option B
-None >>= next = None
-Some x >>= next = next x
-
--- so many bytes
-unfoldable pub bytes_at : ℕ → List ℕ → Option (List ℕ × List ℕ)
-bytes_at n bytes = if nat_lt (length bytes) n then None else Some (take n bytes, drop n bytes)
-
--- a number, its highest byte first
-unfoldable pub number_at : Width → List ℕ → Option (ℕ × List ℕ)
-number_at w bytes = do
-  digits ← bytes_at (byte_len w) bytes
-  Some (from_be_bytes w digits.0, digits.1)
-
-unfoldable pub key_at : List ℕ → Option (List ℕ × List ℕ)
-key_at [] = None
-key_at (n ∷ rest) = bytes_at n rest
-
 unfoldable pub value_at : List ℕ → Option (List ℕ × List ℕ)
 value_at bytes = do
   n ← number_at w32 bytes
@@ -73,13 +55,13 @@ value_at bytes = do
 
 unfoldable pub put_at : List ℕ → Option (Row × List ℕ)
 put_at bytes = do
-  key ← key_at bytes
+  key ← short_at bytes
   value ← value_at key.1
   Some (record { key = key.0; value = Some value.0 }, value.1)
 
 unfoldable pub delete_at : List ℕ → Option (Row × List ℕ)
 delete_at bytes = do
-  key ← key_at bytes
+  key ← short_at bytes
   Some (record { key = key.0; value = None }, key.1)
 
 unfoldable pub row_at : List ℕ → Option (Row × List ℕ)

@@ -5,7 +5,7 @@ use apex_base::{Bytes, Listed};
 /// What becomes of a key: it has this value from now on, or with None it has none.
 #[derive(Drop)]
 pub struct Row {
-    pub key: Bytes,
+    pub key: Listed<u8>,
     pub value: Option<Bytes>,
 }
 

@@ -1,12 +1,11 @@
 //! From bytes to batches.
 ghost use Rattle.std.specs.Prelude.{◌≡◌, [], length, IfOk, IfSome, IfNone, Option};
-ghost use Rattle.std.specs.Int.{w32, w64};
 ghost use Rattle.std.specs.Option.{option_map};
-ghost use Rattle.row_codec.specs.Batch.{Spells, bytes_at, number_at, key_at, value_at, put_at, delete_at, row_at, row_above, rows_of, batch_of};
+ghost use Rattle.row_codec.specs.Batch.{Spells, value_at, put_at, delete_at, row_at, row_above, rows_of, batch_of};
 ghost use Rattle.row_codec.specs.Slices.{row_seen};
 
 use crate::{Batch, Row};
-use apex_base::Listed;
+use apex_base::{Bytes, Listed, bytes_at, short_at, u32_at, u64_at};
 use std::alloc::{AllocError, Global};
 
 /// The batch that the bytes spell; None if and only if they spell none.
@@ -71,7 +70,7 @@ impl RowSlices<'_> {
     {
         let key = Listed::of(Vec::from_slice(alloc, self.key)?);
         let value = match self.value {
-            Some(value) => Some(Listed::of(Vec::from_slice(alloc, value)?)),
+            Some(value) => Some(Bytes::shared(alloc, Vec::from_slice(alloc, value)?)?),
             None => None,
         };
         Ok(Row { key, value })
@@ -105,7 +104,7 @@ fn row_at(bytes: &[u8]) -> Option<(RowSlices<'_>, &[u8])>
 fn put_at(bytes: &[u8]) -> Option<(RowSlices<'_>, &[u8])>
     ensures { option_map (λ found. (row_seen found.0, found.1.now)) result ≡ put_at bytes.now }
 {
-    let (key, rest) = key_at(bytes)?;
+    let (key, rest) = short_at(bytes)?;
     let (value, rest) = value_at(rest)?;
     let value = Some(value);
     Some((RowSlices { key, value }, rest))
@@ -115,18 +114,8 @@ fn put_at(bytes: &[u8]) -> Option<(RowSlices<'_>, &[u8])>
 fn delete_at(bytes: &[u8]) -> Option<(RowSlices<'_>, &[u8])>
     ensures { option_map (λ found. (row_seen found.0, found.1.now)) result ≡ delete_at bytes.now }
 {
-    let (key, rest) = key_at(bytes)?;
+    let (key, rest) = short_at(bytes)?;
     Some((RowSlices { key, value: None }, rest))
-}
-
-#[tactic(auto, unfolding(crate::specs::Batch::key_at))]
-fn key_at(bytes: &[u8]) -> Option<(&[u8], &[u8])>
-    ensures { option_map (λ found. (found.0.now, found.1.now)) result ≡ key_at bytes.now }
-{
-    match bytes {
-        [] => None,
-        [len, rest @ ..] => bytes_at(usize::from(*len), rest),
-    }
 }
 
 #[tactic(auto, unfolding(crate::specs::Batch::value_at))]
@@ -135,27 +124,4 @@ fn value_at(bytes: &[u8]) -> Option<(&[u8], &[u8])>
 {
     let (len, rest) = u32_at(bytes)?;
     bytes_at(len as usize, rest)
-}
-
-#[tactic(auto, unfolding(crate::specs::Batch::number_at, crate::specs::Batch::bytes_at))]
-fn u64_at(bytes: &[u8]) -> Option<(u64, &[u8])>
-    ensures { option_map (λ found. (found.0, found.1.now)) result ≡ number_at w64 bytes.now }
-{
-    let (digits, rest) = bytes.split_first_chunk::<8>()?;
-    Some((u64::from_be_bytes(*digits), rest))
-}
-
-#[tactic(auto, unfolding(crate::specs::Batch::number_at, crate::specs::Batch::bytes_at))]
-fn u32_at(bytes: &[u8]) -> Option<(u32, &[u8])>
-    ensures { option_map (λ found. (found.0, found.1.now)) result ≡ number_at w32 bytes.now }
-{
-    let (digits, rest) = bytes.split_first_chunk::<4>()?;
-    Some((u32::from_be_bytes(*digits), rest))
-}
-
-#[tactic(auto, unfolding(crate::specs::Batch::bytes_at))]
-fn bytes_at(n: usize, bytes: &[u8]) -> Option<(&[u8], &[u8])>
-    ensures { option_map (λ found. (found.0.now, found.1.now)) result ≡ bytes_at n bytes.now }
-{
-    bytes.split_at_checked(n)
 }

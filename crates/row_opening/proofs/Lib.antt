@@ -1,9 +1,9 @@
 mod AloneRows
+mod EraParts
 pub mod EraValues
 mod FileRows
 pub mod KeptKeys
 mod KeptPlaces
-mod KeptSteps
 pub mod KeyOrder
 mod KeysRead
 mod MomentLists
@@ -19,9 +19,10 @@ mod RightBoots
 mod RightKeptRows
 mod RightNames
 mod RightRecords
+mod RowsWalked
 mod SessionLists
 mod SessionSteps
-mod SettledChanges
+pub mod SettledChanges
 mod SettledFiles
 mod SettledNames
 mod StrangeTags

@@ -17,7 +17,7 @@ use Rattle.apex_base.proofs.Finding.{some_if}
 use Rattle.apex_world.specs.Opened.{opened, opened_sessions, path_in}
 use Rattle.apex_world.specs.Rows.{row_at}
 use Rattle.package_store.specs.Settled.{file_stays}
-use Rattle.session_record.proofs.Steps.{AreBytes-take}
+use Rattle.apex_base.proofs.ByteLists.{AreBytes-take}
 use Rattle.row_opening.specs.BadRows.{opened_rows}
 use Rattle.row_opening.specs.FileKeys.{is_file_key}
 use Rattle.row_opening.specs.RightRows.{has_own}

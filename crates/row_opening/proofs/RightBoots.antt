@@ -20,7 +20,8 @@ use Rattle.apex_world.specs.Opened.{activated_at}
 use Rattle.apex_world.specs.Opened.{opened}
 use Rattle.apex_world.specs.Rows.{moments_text, boots_text, boots_row}
 use Rattle.apex_world.specs.World.{boots}
-use Rattle.session_record.proofs.Steps.{AreBytes, bind_holds}
+use Rattle.apex_base.proofs.ByteLists.{AreBytes}
+use Rattle.session_record.proofs.Steps.{bind_holds}
 use Rattle.session_record.proofs.Took.{byte_took, four_took, moment_took}
 use Rattle.row_opening.specs.BadRows.{opened_rows}
 use Rattle.row_opening.specs.RightRows.{is_value, are_boots, is_boots_row}

@@ -11,7 +11,8 @@ use Rattle.apex_base.specs.Keys.{DataOf, WatchOf, RowMap, data_front, watch_fron
 use Rattle.apex_base.specs.Reading.{number_at, at_end, eight_text, short_at, short_text}
 use Rattle.apex_base.specs.Text.{is_name}
 use Rattle.apex_world.specs.Opened.{end_of}
-use Rattle.session_record.proofs.Steps.{AreBytes, bind_holds}
+use Rattle.apex_base.proofs.ByteLists.{AreBytes}
+use Rattle.session_record.proofs.Steps.{bind_holds}
 use Rattle.session_record.proofs.Took.{eight_took}
 use Rattle.row_opening.specs.BadRows.{opened_rows}
 use Rattle.row_opening.specs.RightRows.{is_value, are_names, is_data_row, is_watch_row}

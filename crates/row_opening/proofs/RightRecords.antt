@@ -15,7 +15,8 @@ use Rattle.apex_base.specs.Keys.{RecordOf, RowMap, id_text, id_of, key_text, key
 use Rattle.apex_base.specs.Reading.{◌>>=◌, number_at, at_end, four_text}
 use Rattle.apex_base.specs.Spelling.{record_text, record_of, Spells}
 use Rattle.apex_world.specs.Opened.{record_in}
-use Rattle.session_record.proofs.Steps.{AreBytes, Took}
+use Rattle.apex_base.proofs.ByteLists.{AreBytes}
+use Rattle.session_record.proofs.Steps.{Took}
 use Rattle.session_record.proofs.Took.{four_took}
 use Rattle.session_record.proofs.TookRecords.{record_took}
 use Rattle.row_opening.specs.BadRows.{opened_rows}

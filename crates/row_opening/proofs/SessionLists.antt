@@ -15,7 +15,7 @@ use Rattle.apex_base.specs.declared.numbers.SessionId.{SessionId}
 use Rattle.apex_base.specs.declared.records.Record.{Record}
 use Rattle.apex_base.specs.Keys.{RecordOf, RowMap, key_text, id_text, id_of}
 use Rattle.apex_base.specs.Members.{In}
-use Rattle.apex_base.specs.Reading.{◌>>=◌, number_at}
+use Rattle.apex_base.specs.Reading.{number_at}
 use Rattle.apex_base.specs.Sessions.{Ascend}
 use Rattle.apex_base.specs.Spelling.{record_of}
 use Rattle.apex_base.proofs.Finding.{some_if}
@@ -27,6 +27,7 @@ use Rattle.apex_world.proofs.OpenedSessions.{same_members}
 use Rattle.row_opening.specs.RightRows.{record_in_row, record_if}
 use Rattle.row_opening.specs.RowBytes.{FitBytes, FitRow, FitRows}
 use Rattle.row_opening.specs.RowSessions.{sessions_in, with_record, record_in_entry}
+use Rattle.row_opening.proofs.KeptPlaces.{next_is}
 use Rattle.row_opening.proofs.KeyOrder.{id_less, below_less}
 use Rattle.row_opening.proofs.OpenedRecords.{read_id, is_record_in, session_row, session_there, sessions_ascend}
 use Rattle.row_opening.proofs.RightRecords.{id_is, record_here}
@@ -40,11 +41,6 @@ record IsRecordRow (key value : List ℕ) (r : Record) : Type 0 where
   is : key ≡ key_text (RecordOf r.id)
   low : r.id.0 < 2 ^ 32
   spells : record_of r.id value ≡ Some r
-
-next_is : {A B : Type 0} (o : Option A) (f : A → Option B) (y : B) → (o >>= f) ≡ Some y
-    → (x : A) × (o ≡ Some x) × (f x ≡ Some y)
-next_is None f y e = absurd (cc e)
-next_is (Some x) f y e = (x, refl, e)
 
 row_if : (rest value : List ℕ) (r : Record) (id : ℕ × List ℕ) → FitBytes rest → number_at w32 rest ≡ Some id
     → record_if id value ≡ Some r → IsRecordRow (2 ∷ rest) value r

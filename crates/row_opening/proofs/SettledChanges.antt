@@ -1,9 +1,10 @@
--- What the changes that settle rows say of the rows of a tag. Callers want `settling`, `stays` and `moves`.
+-- What the changes that settle rows say of the rows of a tag. Callers want `changed_here`, `settling`, `stays`
+-- and `moves`.
 use Rattle.std.proofs.Common.{◌≡◌, ◌≢◌, ℕ, Bool, true, false, ◌||◌, List, [], ◌∷◌, Option, Some, None}
 use Rattle.std.proofs.Common.{sym, ap, subst, ◌∙◌, refl}
 use Rattle.std.specs.FinMap as fin
 use Rattle.std.specs.List.{AllByRecursion}
-use Rattle.std.proofs.lemmas.Bool.{eqb-true, eq-eqb}
+use Rattle.std.proofs.lemmas.Bool.{eqb-true, eq-eqb, or_parts}
 use Rattle.apex_base.specs.declared.records.Record.{Record}
 use Rattle.apex_base.specs.Keys.{RowMap}
 use Rattle.row_codec.specs.declared.batch.Row.{Row}
@@ -14,16 +15,12 @@ use Rattle.apex_world.specs.Opened.{opened_sessions}
 use Rattle.package_store.specs.Settled.{IsChange, settled_value}
 use Rattle.row_opening.specs.SettledTags.{has_tag, changes_tag}
 
-neither : (a b : Bool) → (a || b) ≡ false → (a ≡ false) × (b ≡ false)
-neither true b e = absurd (cc e)
-neither false b e = (refl, e)
-
 first_true : (a b : Bool) → (a || b) ≡ true → b ≡ false → a ≡ true
 first_true true b e f = refl
 first_true false b e f = absurd (cc (e, f))
 
 -- the key that was changed has its new value
-changed_here : (m : RowMap) (key : List ℕ) (value : Option (List ℕ)) → fin.get (changed_at m key value) key ≡ value
+pub changed_here : (m : RowMap) (key : List ℕ) (value : Option (List ℕ)) → fin.get (changed_at m key value) key ≡ value
 changed_here m key None = at_remove m key key ∙ rw (itself key) refl
 changed_here m key (Some value) = at_insert m key value key ∙ rw (itself key) refl
 
@@ -44,7 +41,7 @@ module _ (tag : ℕ) where
       → fin.get (changed m changes) (tag ∷ rest) ≡ fin.get m (tag ∷ rest)
   untouched m [] e rest = refl
   untouched m (c ∷ cs) e rest =
-      let (here, later) = neither (has_tag tag c.key) (changes_tag tag cs) e in
+      let (here, later) = or_parts (has_tag tag c.key) (changes_tag tag cs) e in
       untouched (changed_at m c.key c.value) cs later rest
       ∙ changed_other m c.key c.value (tag ∷ rest)
       (other_key (same_key (tag ∷ rest) c.key) c.key rest here refl)

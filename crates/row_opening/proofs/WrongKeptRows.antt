@@ -1,36 +1,43 @@
--- Where a key of what sessions keep isn't right, the rows differ from those of the world that they open to. Callers
--- want `kept_wrong`.
-use Rattle.std.proofs.Common.{◌≡◌, ◌≢◌, ℕ, ◌<◌, ◌^◌, Bool, true, false, cond, eqb, ◌||◌, List, [], ◌∷◌, Option, Some}
+-- Where a row isn't one that its session keeps, or a session lacks a value that it keeps, the rows differ from those of
+-- the world that they open to. Callers want `row_wrong` and `value_missing`.
+use Rattle.std.proofs.Common.{◌≡◌, ◌≢◌, ℕ, suc, ◌<◌, ◌^◌, Bool, true, false, cond, eqb, List, [], ◌∷◌, Option, Some}
 use Rattle.std.proofs.Common.{None, drop, sym, ap, subst, ◌∙◌, refl}
 use Rattle.std.specs.Prelude.{option_and_then}
+use Rattle.std.specs.List.{list_all}
+use Rattle.std.specs.Str.{bytes_eq}
 use Rattle.std.specs.FinMap as fin
-use Rattle.std.proofs.lemmas.Bool.{eqb-true}
+use Rattle.std.proofs.lemmas.Bool.{eqb-true, false≢true}
+use Rattle.std.proofs.lemmas.Slice.Eq.{bytes_eq-Decides}
 use Rattle.apex_base.specs.declared.numbers.Scale.{Scale}
 use Rattle.apex_base.specs.declared.numbers.SessionId.{SessionId}
+use Rattle.apex_base.specs.declared.records.Part.{Part}
 use Rattle.apex_base.specs.declared.records.Record.{Record}
 use Rattle.apex_base.specs.Keys.{RowMap}
 use Rattle.apex_base.specs.Members.{In}
-use Rattle.apex_base.specs.Reading.{short_text}
-use Rattle.apex_base.specs.Sessions.{session_of}
+use Rattle.apex_base.specs.Reading.{short_text, four_text}
+use Rattle.apex_base.specs.Sessions.{names, session_of}
 use Rattle.apex_base.proofs.Finding.{some_then}
-use Rattle.apex_base.proofs.MemberLemmas.{in_filter}
+use Rattle.apex_base.proofs.MemberLemmas.{each_in, in_any}
 use Rattle.apex_base.proofs.RowMaps.{entry_get}
-use Rattle.apex_base.proofs.SessionLemmas.{of_in}
-use Rattle.apex_world.specs.Opened.{activated_at, opened_boots, opened_sessions}
+use Rattle.apex_base.proofs.SessionLemmas.{of_found, of_in}
+use Rattle.apex_world.specs.Opened.{opened_boots, opened_sessions}
 use Rattle.row_opening.specs.BadRows.{opened_rows, DiffersAt}
-use Rattle.row_opening.specs.KeptRows.{IsKeptTag, kept_text, era_value, kept_if, kept_value, kept_row}
-use Rattle.row_opening.specs.RightKept.{same_values, place_in, value_by, has_kept, is_right_place, is_right_key}
-use Rattle.row_opening.specs.RightKept.{WrongKey}
+use Rattle.row_opening.specs.KeptRows.{IsKeptTag, kept_text, era_key, era_value, keeps, kept_if, kept_value, kept_row}
+use Rattle.row_opening.specs.KeptRows.{AreEras, HaveBoots}
+use Rattle.row_opening.specs.RightKept.{place_in, is_kept, is_right_row, WrongRow, has_name_kept, has_kept, have_kept}
+use Rattle.row_opening.specs.RightRows.{is_value}
+use Rattle.row_opening.specs.RowBytes.{FitBytes}
+use Rattle.row_opening.specs.RowFronts.{rows_after}
+use Rattle.row_opening.proofs.EraParts.{era_front}
 use Rattle.row_opening.proofs.KeptKeys.{kept_there, kept_differs, opened_keyed}
-use Rattle.row_opening.proofs.KeptPlaces.{Place, is_same, some_fails, place_read, place_again}
-use Rattle.row_opening.proofs.KeysRead.{short_is}
+use Rattle.row_opening.proofs.KeptPlaces.{Place, is_value_there, some_fails, place_key, place_again}
 use Rattle.row_opening.proofs.OpenedRecords.{sessions_ascend, session_id}
+use Rattle.row_opening.proofs.RowsWalked.{after_get}
 
-not_wrong : (b : Bool) → b ≡ true → b ≡ false → ⊥
-not_wrong true e f = absurd (cc f)
-not_wrong false e f = absurd (cc e)
+abbrev Entry : Type 0
+Entry = List ℕ × List ℕ
 
-module _ (m : RowMap) (scale : Scale) (tag : ℕ) (is : IsKeptTag tag) where
+module _ (m : RowMap) (scale : Scale) (tag : ℕ) (is : IsKeptTag tag) (values : RowMap) where
   abbrev ss : List Record
   ss = opened_sessions m
 
@@ -59,46 +66,79 @@ module _ (m : RowMap) (scale : Scale) (tag : ℕ) (is : IsKeptTag tag) where
       → DiffersAt m scale tag
   unplaced rest value e none = (rest, λ same. placed rest value (sym same ∙ e) none)
 
-  -- a session that hasn't what it keeps
-  unkept : (s r : Record) (name key : List ℕ) → In r ss → r.activation ≡ s.activation
-      → has_kept m ss boots tag name (short_text name key) (era_value m ss boots s.activation name key) r ≡ false
-      → DiffersAt m scale tag
-  unkept s r name key h same wrong =
-      kept_differs m scale tag r.id name key is (session_id m r h) (λ e.
-      let has = fin.get m (kept_text tag r.id name key) in
-      let keeps_it : has ≡ kept_if ss tag name (era_value m ss boots s.activation name key) r =
-      e ∙ ap (option_and_then (kept_value m ss boots tag name key)) (of_in ss r (sessions_ascend m) h)
-      ∙ ap (λ (b : ℕ). kept_if ss tag name (era_value m ss boots b name key) r) same in
-      not_wrong _ (sym (ap (same_values has) keeps_it) ∙ is_same has) wrong)
+  module _ (boots_low : HaveBoots ss) (eras : AreEras m ss boots values) where
+    era_is : (s : Record) (name key : List ℕ) → In s ss
+        → fin.get values (era_key s.activation name key) ≡ era_value m ss boots s.activation name key
+    era_is s name key h =
+        eras s.activation name key (each_in (λ (r : Record). r.activation < 2 ^ 32) ss boots_low s h)
 
-  beside : (p : Place) (rest : List ℕ) → place_in ss rest ≡ Some p
-      → is_right_place m ss boots tag true (Some p) ≡ false → DiffersAt m scale tag
-  beside p rest read wrong =
-      let is_under : p.3 ≡ short_text p.1 p.2 = short_is p.3 p.1 p.2 (place_read ss rest p read).short in
-      let (r, h, f) = some_fails (has_kept m ss boots tag p.1 p.3 (value_by m boots p.0.activation p.1 p.2 p.3
-      (activated_at p.0.activation ss))) (activated_at p.0.activation ss) wrong in
-      let (i, same) = in_filter (λ (r : Record). eqb r.activation p.0.activation) r ss h in
-      unkept p.0 r p.1 p.2 i (eqb-true r.activation p.0.activation same)
-      (subst (λ (under : List ℕ). has_kept m ss boots tag p.1 under (value_by m boots p.0.activation p.1 p.2 under
-      (activated_at p.0.activation ss)) r ≡ false) is_under f)
+    -- a row that its session doesn't keep
+    unkept : (p : Place) (rest value : List ℕ) → FitBytes rest → place_in ss rest ≡ Some p
+        → fin.get m (tag ∷ rest) ≡ Some value → is_kept ss values tag (Some p) value ≡ false → DiffersAt m scale tag
+    unkept p rest value fits read there wrong =
+        let key = place_key ss rest p fits read in
+        let h = (of_found ss key.id p.0 key.there).0 in
+        kept_differs m scale tag key.id p.1 p.2 is key.low (λ e.
+        let kept : kept_value m ss boots tag p.1 p.2 p.0 ≡ Some value =
+        sym (ap (option_and_then (kept_value m ss boots tag p.1 p.2)) key.there) ∙ sym e
+        ∙ ap (λ (xs : List ℕ). fin.get m (tag ∷ xs)) (sym key.is) ∙ there in
+        let found : kept_if ss tag p.1 (fin.get values (four_text p.0.activation p.3)) p.0 ≡ Some value =
+        ap (λ (under : List ℕ). kept_if ss tag p.1 (fin.get values (four_text p.0.activation under)) p.0) key.under
+        ∙ ap (λ (o : Option (List ℕ)). kept_if ss tag p.1 o p.0) (era_is p.0 p.1 p.2 h) ∙ kept in
+        absurd (false≢true (sym wrong ∙ is_value_there _ value found)))
 
-  place_if : (own : Bool) (o : Option Place) (t : ℕ) (rest value : List ℕ) → eqb t tag ≡ own → place_in ss rest ≡ o
-      → fin.get m (t ∷ rest) ≡ Some value → is_right_place m ss boots tag own o ≡ false → DiffersAt m scale tag
-  place_if own (Some p) t rest value e read there wrong = beside p rest read wrong
-  place_if true None t rest value e read there wrong =
-      unplaced rest value (subst (λ (t : ℕ). fin.get m (t ∷ rest) ≡ Some value) (eqb-true t tag e) there) read
-  place_if false None t rest value e read there wrong = absurd (cc wrong)
+    place_if : (o : Option Place) (rest value : List ℕ) → FitBytes rest → place_in ss rest ≡ o
+        → fin.get m (tag ∷ rest) ≡ Some value → is_kept ss values tag o value ≡ false → DiffersAt m scale tag
+    place_if (Some p) rest value fits read there wrong = unkept p rest value fits read there wrong
+    place_if None rest value fits read there wrong = unplaced rest value there read
 
-  known_if : (b : Bool) (t : ℕ) (rest value : List ℕ) → fin.get m (t ∷ rest) ≡ Some value
-      → cond b (is_right_place m ss boots tag (eqb t tag) (place_in ss rest)) true ≡ false → DiffersAt m scale tag
-  known_if true t rest value there wrong = place_if (eqb t tag) (place_in ss rest) t rest value refl refl there wrong
-  known_if false t rest value there wrong = absurd (cc wrong)
+    own_if : (own : Bool) (t : ℕ) (rest value : List ℕ) → eqb t tag ≡ own → FitBytes rest
+        → fin.get m (t ∷ rest) ≡ Some value → cond own (is_kept ss values tag (place_in ss rest) value) true ≡ false
+        → DiffersAt m scale tag
+    own_if true t rest value e fits there wrong =
+        place_if (place_in ss rest) rest value fits refl
+        (subst (λ (t : ℕ). fin.get m (t ∷ rest) ≡ Some value) (eqb-true t tag e) there) wrong
+    own_if false t rest value e fits there wrong = absurd (cc wrong)
 
-  key_if : (key value : List ℕ) → fin.get m key ≡ Some value → is_right_key m ss boots tag key ≡ false
-      → DiffersAt m scale tag
-  key_if [] value there wrong = absurd (cc wrong)
-  key_if (t ∷ rest) value there wrong = known_if (eqb t 7 || eqb t 8) t rest value there wrong
+    key_if : (key value : List ℕ) → FitBytes key → fin.get m key ≡ Some value
+        → is_right_row ss values tag key value ≡ false → DiffersAt m scale tag
+    key_if [] value fits there wrong = absurd (cc wrong)
+    key_if (t ∷ rest) value fits there wrong =
+        own_if (eqb t tag) t rest value refl (λ i. fits (suc i)) there wrong
 
-  -- where a key isn't right, they differ
-  pub kept_wrong : WrongKey m ss boots tag (fin.entries m) → DiffersAt m scale tag
-  kept_wrong w = key_if w.row.0 w.row.1 (entry_get m w.row w.member) w.wrong
+    -- where a row isn't right, they differ
+    pub row_wrong : WrongRow ss values tag (fin.entries m) → DiffersAt m scale tag
+    row_wrong w = key_if w.row.0 w.row.1 w.fits (entry_get m w.row w.member) w.wrong
+
+    -- a value that a session keeps and hasn't
+    lacks : (s : Record) (p : Part) (row : Entry) → In s ss → In p s.parts → keeps ss tag s ≡ true
+        → In row (rows_after (era_key s.activation p.name []) (fin.entries values))
+        → is_value (fin.get m (kept_text tag s.id p.name row.0)) row.1 ≡ false → DiffersAt m scale tag
+    lacks s p row h i keeping there wrong =
+        kept_differs m scale tag s.id p.name row.0 is (session_id m s h) (λ e.
+        let named : names p.name s ≡ true =
+        in_any (λ (q : Part). bytes_eq q.name p.name) p s.parts i ((bytes_eq-Decides p.name p.name).1 refl) in
+        let value : era_value m ss boots s.activation p.name row.0 ≡ Some row.1 =
+        sym (era_is s p.name row.0 h) ∙ ap (fin.get values) (sym (era_front s.activation p.name row.0))
+        ∙ after_get (era_key s.activation p.name []) values row there in
+        let kept : kept_value m ss boots tag p.name row.0 s ≡ Some row.1 =
+        ap (λ (b : Bool). cond b (cond (names p.name s) (era_value m ss boots s.activation p.name row.0) None) None)
+        keeping
+        ∙ ap (λ (b : Bool). cond b (era_value m ss boots s.activation p.name row.0) None) named ∙ value in
+        absurd (false≢true (sym wrong ∙ is_value_there _ row.1 (e
+        ∙ ap (option_and_then (kept_value m ss boots tag p.name row.0)) (of_in ss s (sessions_ascend m) h) ∙ kept))))
+
+    keeps_if : (s : Record) (b : Bool) → In s ss → keeps ss tag s ≡ b
+        → cond b (list_all (λ (p : Part). has_name_kept ss values tag m s p.name) s.parts) true ≡ false
+        → DiffersAt m scale tag
+    keeps_if s true h keeping wrong =
+        let (p, i, f) = some_fails (λ (p : Part). has_name_kept ss values tag m s p.name) s.parts wrong in
+        let (row, j, g) = some_fails (λ (row : Entry). is_value (fin.get m (kept_text tag s.id p.name row.0)) row.1)
+        (rows_after (era_key s.activation p.name []) (fin.entries values)) f in
+        lacks s p row h i keeping j g
+    keeps_if s false h keeping wrong = absurd (cc wrong)
+
+    -- where one is missing, they differ
+    pub value_missing : have_kept ss values tag m ss ≡ false → DiffersAt m scale tag
+    value_missing wrong =
+        let (s, h, f) = some_fails (has_kept ss values tag m) ss wrong in keeps_if s (keeps ss tag s) h refl f

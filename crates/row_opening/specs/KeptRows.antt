@@ -2,12 +2,13 @@
 -- that they open to: docs/rows.md, "Opening". The sessions and the number of boots are the opened ones.
 use Rattle.std.specs.Prelude.{◌≡◌, ◌⊎◌, ℕ, ◌<◌, ◌^◌, ◌==◌, ◌&&◌, Bool, not, nat_le, List, [], ◌∷◌, ◌++◌, Option}
 use Rattle.std.specs.Prelude.{Some, None, option_and_then, if◌then◌else◌}
+use Rattle.std.specs.List.{AllByRecursion}
 use Rattle.std.specs.Option.{option_or}
 use Rattle.std.specs.FinMap as fin
 use Rattle.apex_base.specs.declared.numbers.SessionId.{SessionId}
 use Rattle.apex_base.specs.declared.records.Record.{Record}
 use Rattle.apex_base.specs.Keys.{RowMap, id_text}
-use Rattle.apex_base.specs.Reading.{short_text}
+use Rattle.apex_base.specs.Reading.{four_text, short_text}
 use Rattle.apex_base.specs.Sessions.{names, session_of}
 use Rattle.apex_base.specs.Text.{is_name}
 use Rattle.apex_world.specs.Opened.{opened_boots, opened_sessions, activated_at, named_in}
@@ -46,6 +47,19 @@ is_boot boots boot = not (boot == 0) && nat_le boot boots
 abbrev pub era_value : RowMap → List Record → ℕ → ℕ → List ℕ → List ℕ → Option (List ℕ)
 era_value m sessions boots boot name key =
     if is_boot boots boot && is_name key then kept_by m (short_text name key) (counting sessions boot name) else None
+
+-- the key of such a value, among all values that names had before boots
+abbrev pub era_key : ℕ → List ℕ → List ℕ → List ℕ
+era_key boot name key = four_text boot (short_text name key)
+
+-- these are the values that names had before boots
+abbrev pub AreEras : RowMap → List Record → ℕ → RowMap → Type 0
+AreEras m sessions boots values = (boot : ℕ) (name key : List ℕ) → boot < 2 ^ 32
+    → fin.get values (era_key boot name key) ≡ era_value m sessions boots boot name key
+
+-- the boots that activated these sessions are within the range of boots
+abbrev pub HaveBoots : List Record → Type 0
+HaveBoots sessions = AllByRecursion (λ r. r.activation < 2 ^ 32) sessions
 
 -- a session keeps values under this tag
 abbrev pub keeps : List Record → ℕ → Record → Bool

@@ -1,9 +1,11 @@
 pub mod BadRows
+pub mod EraSteps
 pub mod FileKeys
 pub mod KeptRows
 pub mod RightKept
 pub mod RightRows
 pub mod RowBytes
+pub mod RowFronts
 pub mod RowSessions
 pub mod SettledTags
 pub mod WrongTags

@@ -4,9 +4,9 @@ ghost use Rattle.std.specs.Option.{is_some, option_map};
 ghost use Rattle.apex_world.specs.Opened.{moments_at, boots_of, opened_boots};
 ghost use Rattle.row_opening.specs.RightRows.{are_boots, is_boots_row};
 
-use apex_base::Millis;
+use apex_base::{Millis, byte_at, u32_at};
 use row_map::Rows;
-use session_record::{byte_at, moment_at, u32_at};
+use session_record::moment_at;
 use std::alloc::{AllocError, Global};
 
 /// Whether the bytes are so many moments.

@@ -1,109 +1,146 @@
-//! What a name had before a boot, by the rows of what sessions keep: `docs/rows.md`, "Opening".
-ghost use Rattle.std.specs.Prelude.{◌≡◌, map, IfOk, OnOk, option_map};
-ghost use Rattle.apex_base.specs.Sessions.{Ascend};
+//! What names had before boots, by the rows of what sessions keep: `docs/rows.md`, "Opening".
+ghost use Rattle.std.specs.Prelude.{◌≡◌, ◌++◌, ◌&&◌, ◌<◌, ◌^◌, ℕ, List, map, Some, None, IfOk, OnOk, if◌then◌else◌};
+ghost use Rattle.std.specs.FinMap as fin;
+ghost use Rattle.std.specs.Option.{option_or};
 ghost use Rattle.apex_base.specs.Text.{is_name};
-ghost use Rattle.apex_world.specs.Opened.{activated_at, named_in};
-ghost use Rattle.row_opening.specs.KeptRows.{key_under, first_kept, kept_by, is_boot};
-ghost use Rattle.row_opening.specs.RightKept.{place_in, value_by};
+ghost use Rattle.row_map.specs.Room.{same_key};
+ghost use Rattle.row_opening.specs.KeptRows.{is_boot, AreEras, HaveBoots};
+ghost use Rattle.row_opening.specs.EraSteps.{Adds, kept_of_name, kept_of_parts};
+ghost use Rattle.row_opening.specs.EraSteps.{kept_of_session, kept_of_all};
 
-use crate::keeping::has_name;
-use apex_base::{Name, Record, SessionId, session_of};
+use crate::fronts::{era_front, joined, kept_front, rows_after};
+use apex_base::{Bytes, Name, Record};
 use row_map::Rows;
-use session_record::{short_at, u32_at};
 use std::alloc::{AllocError, Global};
 
-/// What a key says without its tag: a session that is there, a name, a key, and what follows the session.
+/// Rows of what sessions keep: all rows, the number of boots that they open to, and the tag of those that count.
 #[derive(Drop)]
-pub(crate) struct Place<'a> {
-    pub(crate) session: &'a Record,
-    pub(crate) name: &'a [u8],
-    pub(crate) key: &'a [u8],
-    pub(crate) under: &'a [u8],
+struct Source<'a> {
+    rows: &'a Rows,
+    boots: u32,
+    tag: u8,
 }
 
-/// The place of a key, by what follows the tag, if its session is there.
-pub(crate) fn place_in<'a>(sessions: &'a [Record], rest: &'a [u8]) -> Option<Place<'a>>
-    requires { Ascend sessions.now }
-    ensures { option_map (λ p. (p.session.now, p.name.now, p.key.now, p.under.now)) result
-        ≡ place_in sessions.now rest.now }
-{
-    let Some((id, under)) = u32_at(rest) else {
-        return None;
-    };
-    let Some((name, key)) = short_at(under) else {
-        return None;
-    };
-    let Some(session) = session_of(sessions, u64::from(id)) else {
-        return None;
-    };
-    Some(Place {
-        session,
-        name,
-        key,
-        under,
-    })
-}
-
-/// A boot, and the sessions that it activated.
-#[derive(Drop)]
-pub(crate) struct Peers<'a> {
-    pub(crate) boot: u32,
-    pub(crate) sessions: Vec<&'a Record>,
-}
-
-/// Goes on to another boot, where it is another.
-pub(crate) fn turn_to<'a>(
+/// What names had before boots, each value under the boot, the name and the key. It reads each row of what sessions
+/// keep once for each part of its session that has the row's name, and copies each value that counts.
+pub(crate) fn era_values(
     alloc: Global,
-    sessions: &'a [Record],
-    boot: u32,
-    peers: &mut Peers<'a>,
-) -> Result<(), AllocError>
-    requires { map (λ r. r.now) peers.old.sessions.items ≡ activated_at peers.old.boot sessions.now }
-    ensures peers { map (λ r. r.now) peers.new.sessions.items ≡ activated_at peers.new.boot sessions.now }
-    ensures boot { OnOk result (peers.new.boot ≡ boot) }
+    rows: &Rows,
+    sessions: &[Record],
+    boots: u32,
+) -> Result<Rows, AllocError>
+    ensures eras { IfOk result (AreEras rows.now sessions.now boots) }
+    ensures boots { OnOk result (HaveBoots sessions.now) }
 {
-    if peers.boot != boot {
-        let found = activated_at(alloc, sessions, boot)?;
-        peers.boot = boot;
-        peers.sessions = found;
+    let mut values = Rows::new(alloc);
+    let snapshots = Source {
+        rows,
+        boots,
+        tag: 7,
+    };
+    add_all(alloc, &snapshots, sessions, &mut values)?;
+    let pre_restores = Source {
+        rows,
+        boots,
+        tag: 8,
+    };
+    add_all(alloc, &pre_restores, sessions, &mut values)?;
+    Ok(values)
+}
+
+/// Adds what sessions keep under the tag, where there was no value before.
+fn add_all(
+    alloc: Global,
+    source: &Source,
+    sessions: &[Record],
+    values: &mut Rows,
+) -> Result<(), AllocError>
+    ensures adds { OnOk result (Adds values.old values.new (kept_of_all source.now.rows.now source.now.boots source.now.tag sessions.now)) }
+    ensures boots { OnOk result (HaveBoots sessions.now) }
+{
+    for r in sessions {
+        add_session(alloc, source, r, values)?;
     }
     Ok(())
 }
 
-/// The sessions that a boot activated.
-pub(crate) fn activated_at<'a>(
+/// Adds what a session keeps, if a boot activated it.
+fn add_session(
     alloc: Global,
-    sessions: &'a [Record],
-    boot: u32,
-) -> Result<Vec<&'a Record>, AllocError>
-    ensures { IfOk result (λ found. map (λ r. r.now) found.items ≡ activated_at boot sessions.now) }
+    source: &Source,
+    r: &Record,
+    values: &mut Rows,
+) -> Result<(), AllocError>
+    ensures adds { OnOk result (Adds values.old values.new (kept_of_session source.now.rows.now source.now.boots source.now.tag r.now)) }
+    ensures boot { r.now.activation < 2 ^ 32 }
 {
-    let mut found = Vec::new(alloc);
-    for r in sessions {
-        if r.activation == boot {
-            found.push(r)?;
-        }
+    if is_boot(source.boots, r.activation) {
+        add_names(alloc, source, r, values)
+    } else {
+        Ok(())
     }
-    Ok(found)
 }
 
-/// The value that the name of a place had before the boot that activated its session, by the sessions that the boot
-/// activated.
-pub(crate) fn value_by<'a>(
+/// Adds what a session keeps of the names of its parts.
+fn add_names(
     alloc: Global,
-    rows: &'a Rows,
-    boots: u32,
-    place: &Place,
-    peers: &[&Record],
-) -> Result<Option<&'a [u8]>, AllocError>
-    ensures { IfOk result (λ found. option_map (λ value. value.now) found
-        ≡ value_by rows.now boots place.now.session.now.activation place.now.name.now place.now.key.now
-        place.now.under.now (map (λ r. r.now) peers.now)) }
+    source: &Source,
+    r: &Record,
+    values: &mut Rows,
+) -> Result<(), AllocError>
+    ensures { OnOk result (Adds values.old values.new (kept_of_parts source.now.rows.now source.now.tag r.now r.now.parts)) }
 {
-    if is_boot(boots, place.session.activation) && is_name(place.key) {
-        kept_by(alloc, rows, place.name, place.under, peers)
+    for p in r.parts.as_slice() {
+        add_name(alloc, source, r, &p.name, values)?;
+    }
+    Ok(())
+}
+
+/// Adds what a session keeps of a name.
+fn add_name(
+    alloc: Global,
+    source: &Source,
+    r: &Record,
+    name: &Name,
+    values: &mut Rows,
+) -> Result<(), AllocError>
+    ensures { OnOk result (Adds values.old values.new (kept_of_name source.now.rows.now source.now.tag r.now name.now)) }
+{
+    let kept = kept_front(alloc, source.tag, r.id, name)?;
+    let front = era_front(alloc, r.activation, name)?;
+    for row in rows_after(alloc, source.rows, kept.as_slice())?.as_slice() {
+        add_value(alloc, front.as_slice(), row.key, row.value, values)?;
+    }
+    Ok(())
+}
+
+/// Adds a value under a key after this front, if that is one and has no value.
+fn add_value(
+    alloc: Global,
+    front: &[u8],
+    key: &[u8],
+    value: &[u8],
+    values: &mut Rows,
+) -> Result<(), AllocError>
+    ensures { OnOk result ((q : List ℕ) → fin.get values.new q ≡ option_or (fin.get values.old q)
+        (if is_name key.now && same_key q (front.now ++ key.now) then Some value.now else None)) }
+{
+    if is_name(key) {
+        add(values, joined(alloc, front, key)?, value.to_vec(alloc)?)
     } else {
-        Ok(None)
+        Ok(())
+    }
+}
+
+/// Adds a value at a key that has none.
+fn add(values: &mut Rows, key: Vec<u8>, value: Vec<u8>) -> Result<(), AllocError>
+    ensures { OnOk result ((q : List ℕ) → fin.get values.new q ≡ option_or (fin.get values.old q)
+        (if same_key q key.items then Some value.items else None)) }
+{
+    if values.has(key.as_slice()) {
+        Ok(())
+    } else {
+        values.put(key, Bytes::of(value))
     }
 }
 
@@ -117,60 +154,4 @@ fn is_name(text: &[u8]) -> bool
     ensures { result ≡ is_name text.now }
 {
     Name::read(text).is_some()
-}
-
-/// The first snapshot, or else the first value before a rollback.
-fn kept_by<'a>(
-    alloc: Global,
-    rows: &'a Rows,
-    name: &[u8],
-    under: &[u8],
-    peers: &[&Record],
-) -> Result<Option<&'a [u8]>, AllocError>
-    ensures { IfOk result (λ found. option_map (λ value. value.now) found
-        ≡ kept_by rows.now under.now (named_in name.now (map (λ r. r.now) peers.now))) }
-{
-    match first_kept(alloc, rows, 7, name, under, peers)? {
-        Some(value) => Ok(Some(value)),
-        None => first_kept(alloc, rows, 8, name, under, peers),
-    }
-}
-
-/// The value at the first key of this tag, of those sessions that have the name and such a row.
-fn first_kept<'a>(
-    alloc: Global,
-    rows: &'a Rows,
-    tag: u8,
-    name: &[u8],
-    under: &[u8],
-    peers: &[&Record],
-) -> Result<Option<&'a [u8]>, AllocError>
-    ensures { IfOk result (λ found. option_map (λ value. value.now) found
-        ≡ first_kept rows.now tag under.now (named_in name.now (map (λ r. r.now) peers.now))) }
-{
-    for r in peers {
-        if has_name(r, name) {
-            let key = key_under(alloc, tag, r.id, under)?;
-            if let Some(value) = rows.get(key.as_slice()) {
-                return Ok(Some(value));
-            }
-        }
-    }
-    Ok(None)
-}
-
-/// A key of what a session keeps, by what follows the session in it.
-pub(crate) fn key_under(
-    alloc: Global,
-    tag: u8,
-    id: SessionId,
-    under: &[u8],
-) -> Result<Vec<u8>, AllocError>
-    ensures { IfOk result (λ key. key.items ≡ key_under tag id under.now) }
-{
-    let mut key = Vec::with_capacity(alloc, 5)?;
-    key.push(tag)?;
-    key.extend_from_slice(&id.0.to_be_bytes())?;
-    key.extend_from_slice(under)?;
-    Ok(key)
 }

@@ -1,32 +1,38 @@
 //! Rows of what sessions keep: snapshots, and values before a rollback.
-ghost use Rattle.std.specs.Prelude.{◌≡◌, true, false, map, IfOk, option_map};
+ghost use Rattle.std.specs.Prelude.{◌≡◌, ◌++◌, ℕ, List, Some, true, false, map, IfOk, option_map};
 ghost use Rattle.std.specs.FinMap as fin;
+ghost use Rattle.std.specs.List.{list_all};
 ghost use Rattle.apex_base.specs.declared.numbers.Scale.{Scale};
+ghost use Rattle.apex_base.specs.declared.records.Part.{Part as PartOf};
 ghost use Rattle.apex_base.specs.Sessions.{Ascend};
-ghost use Rattle.apex_world.specs.Opened.{activated_at, opened_boots, opened_sessions};
+ghost use Rattle.apex_world.specs.Opened.{opened_boots, opened_sessions};
 ghost use Rattle.row_opening.specs.BadRows.{AgreesAt, DiffersAt};
 ghost use Rattle.row_opening.specs.KeptRows.{IsKeptTag};
-ghost use Rattle.row_opening.specs.RightKept.{same_values, place_in, has_kept, all_have, is_right_place, is_right_key};
-ghost use Rattle.row_opening.specs.RightKept.{are_right_keys, WrongKey, FitKeys};
+ghost use Rattle.row_opening.specs.RightKept.{FitKeys, place_in, is_kept, is_right_row, are_right_rows, WrongRow};
+ghost use Rattle.row_opening.specs.RightKept.{has_name_kept, has_kept, have_kept};
+ghost use Rattle.row_opening.specs.RightRows.{is_value};
 ghost use Rattle.row_opening.specs.RowBytes.{FitBytes};
 
-use crate::eras::{Peers, Place, activated_at, key_under, place_in, turn_to, value_by};
+use crate::eras::era_values;
+use crate::fronts::{RowAfter, era_front, era_key, joined, kept_front, rows_after};
 use crate::keeping::{has_name, keeps};
-use apex_base::Record;
+use apex_base::{Name, Record, session_of, short_at, u32_at};
 use row_map::Rows;
 use std::alloc::{AllocError, Global};
 
-/// What rows are judged by: all rows, the sessions and the number of boots that they open to, and the tag of those that
-/// are judged.
+/// What rows are judged by: all rows, the sessions that they open to, what names had before boots, and the tag of the
+/// rows that are judged.
 #[derive(Drop)]
 struct Opening<'a> {
     rows: &'a Rows,
     sessions: &'a [Record],
-    boots: u32,
+    values: &'a Rows,
     tag: u8,
 }
 
-/// Whether the rows of tag 7, or those of tag 8, are those of the world that the rows open to.
+/// Whether the rows of tag 7, or those of tag 8, are those of the world that the rows open to. For n rows it takes
+/// n log n steps: it collects what names had before boots, looks up each row of the tag among these values, and then
+/// each value that a session keeps among the rows.
 pub fn is_right_kept(
     alloc: Global,
     tag: u8,
@@ -41,139 +47,214 @@ pub fn is_right_kept(
     ensures right { IfOk result (λ right. right ≡ true → (scale : Scale) → AgreesAt rows.now scale tag) }
     ensures wrong { IfOk result (λ right. right ≡ false → (scale : Scale) → DiffersAt rows.now scale tag) }
 {
+    let values = era_values(alloc, rows, sessions, boots)?;
     let opening = Opening {
         rows,
         sessions,
-        boots,
+        values: &values,
         tag,
     };
-    are_right_keys(alloc, &opening)
+    if !are_right_rows(alloc, &opening)? {
+        return Ok(false);
+    }
+    have_kept(alloc, &opening)
 }
 
-/// Whether each row is right.
-fn are_right_keys(alloc: Global, opening: &Opening) -> Result<bool, AllocError>
+/// Whether each row of the tag is one that its session keeps.
+fn are_right_rows(alloc: Global, opening: &Opening) -> Result<bool, AllocError>
     requires ascend { Ascend opening.now.sessions.now }
     requires tag { IsKeptTag opening.now.tag }
     ensures right { IfOk result (λ right. right ≡ true → FitKeys (fin.entries opening.now.rows.now)
-        × (are_right_keys opening.now.rows.now opening.now.sessions.now opening.now.boots opening.now.tag
+        × (are_right_rows opening.now.sessions.now opening.now.values.now opening.now.tag
         (fin.entries opening.now.rows.now) ≡ true)) }
-    ensures wrong { IfOk result (λ right. right ≡ false → WrongKey opening.now.rows.now opening.now.sessions.now
-        opening.now.boots opening.now.tag (fin.entries opening.now.rows.now)) }
+    ensures wrong { IfOk result (λ right. right ≡ false → WrongRow opening.now.sessions.now opening.now.values.now
+        opening.now.tag (fin.entries opening.now.rows.now)) }
 {
-    let sessions = activated_at(alloc, opening.sessions, 0)?;
-    let mut peers = Peers { boot: 0, sessions };
-    for (key, _) in opening.rows.by_key() {
-        if !is_right_key(alloc, opening, key.as_slice(), &mut peers)? {
+    for (key, value) in opening.rows.by_key() {
+        if !is_right_row(alloc, opening, key.as_slice(), value.as_slice())? {
             return Ok(false);
         }
     }
     Ok(true)
 }
 
-/// Whether a row is of another tag, or right, by its key.
-fn is_right_key<'a>(
+/// Whether a row is of another tag, or one that its session keeps.
+fn is_right_row(
     alloc: Global,
-    opening: &Opening<'a>,
+    opening: &Opening,
     key: &[u8],
-    peers: &mut Peers<'a>,
+    value: &[u8],
 ) -> Result<bool, AllocError>
     requires ascend { Ascend opening.now.sessions.now }
     requires tag { IsKeptTag opening.now.tag }
-    requires peers { map (λ r. r.now) peers.old.sessions.items ≡ activated_at peers.old.boot opening.now.sessions.now }
-    ensures right { IfOk result (λ right. right ≡ is_right_key opening.now.rows.now opening.now.sessions.now
-        opening.now.boots opening.now.tag key.now) }
+    ensures right { IfOk result (λ right. right ≡ is_right_row opening.now.sessions.now opening.now.values.now
+        opening.now.tag key.now value.now) }
     ensures fits { FitBytes key.now }
-    ensures peers { map (λ r. r.now) peers.new.sessions.items ≡ activated_at peers.new.boot opening.now.sessions.now }
 {
     match key {
-        [first, rest @ ..] if *first == 7 || *first == 8 => {
-            is_right_place(alloc, opening, *first == opening.tag, rest, peers)
-        }
+        [first, rest @ ..] if *first == opening.tag => { is_kept(alloc, opening, rest, value) }
         _ => Ok(true),
     }
 }
 
-/// Whether a row is right, by its key without the tag, and whether the tag is the one that is judged.
-fn is_right_place<'a>(
-    alloc: Global,
-    opening: &Opening<'a>,
-    own: bool,
-    rest: &[u8],
-    peers: &mut Peers<'a>,
-) -> Result<bool, AllocError>
-    requires ascend { Ascend opening.now.sessions.now }
-    requires tag { IsKeptTag opening.now.tag }
-    requires peers { map (λ r. r.now) peers.old.sessions.items ≡ activated_at peers.old.boot opening.now.sessions.now }
-    ensures right { IfOk result (λ right. right ≡ is_right_place opening.now.rows.now opening.now.sessions.now
-        opening.now.boots opening.now.tag own (place_in opening.now.sessions.now rest.now)) }
-    ensures peers { map (λ r. r.now) peers.new.sessions.items ≡ activated_at peers.new.boot opening.now.sessions.now }
-{
-    let Some(place) = place_in(opening.sessions, rest) else {
-        return Ok(!own);
-    };
-    turn_to(alloc, opening.sessions, place.session.activation, peers)?;
-    let value = value_by(
-        alloc,
-        opening.rows,
-        opening.boots,
-        &place,
-        peers.sessions.as_slice(),
-    )?;
-    all_have(alloc, opening, &place, value, peers.sessions.as_slice())
+/// What a key says without its tag: a session that is there, a name, and both the name and the key.
+#[derive(Drop)]
+struct Place<'a> {
+    session: &'a Record,
+    name: &'a [u8],
+    key: &'a [u8],
+    under: &'a [u8],
 }
 
-/// Whether each of these sessions has this value, where it keeps values of the name, and else none.
-fn all_have(
+/// The place of a key, by what follows the tag, if its session is there.
+fn place_in<'a>(sessions: &'a [Record], rest: &'a [u8]) -> Option<Place<'a>>
+    requires { Ascend sessions.now }
+    ensures { option_map (λ p. (p.session.now, p.name.now, p.key.now, p.under.now)) result
+        ≡ place_in sessions.now rest.now }
+{
+    let Some((id, under)) = u32_at(rest) else {
+        return None;
+    };
+    let Some((name, key)) = short_at(under) else {
+        return None;
+    };
+    let Some(session) = session_of(sessions, u64::from(id)) else {
+        return None;
+    };
+    Some(Place {
+        session,
+        name,
+        key,
+        under,
+    })
+}
+
+/// Whether the session of a key keeps this value there, by what follows the tag.
+fn is_kept(alloc: Global, opening: &Opening, rest: &[u8], value: &[u8]) -> Result<bool, AllocError>
+    requires ascend { Ascend opening.now.sessions.now }
+    requires tag { IsKeptTag opening.now.tag }
+    ensures { IfOk result (λ kept. kept ≡ is_kept opening.now.sessions.now opening.now.values.now opening.now.tag
+        (place_in opening.now.sessions.now rest.now) value.now) }
+{
+    match place_in(opening.sessions, rest) {
+        Some(place) => is_kept_at(alloc, opening, &place, value),
+        None => Ok(false),
+    }
+}
+
+/// The same, by the place of the key.
+fn is_kept_at(
     alloc: Global,
     opening: &Opening,
     place: &Place,
-    value: Option<&[u8]>,
-    peers: &[&Record],
+    value: &[u8],
 ) -> Result<bool, AllocError>
     requires ascend { Ascend opening.now.sessions.now }
     requires tag { IsKeptTag opening.now.tag }
-    ensures { IfOk result (λ have. have ≡ all_have opening.now.rows.now opening.now.sessions.now opening.now.boots
-        opening.now.tag place.now.name.now place.now.under.now (option_map (λ v. v.now) value.entry)
-        (map (λ r. r.now) peers.now)) }
+    ensures { IfOk result (λ kept. kept ≡ is_kept opening.now.sessions.now opening.now.values.now opening.now.tag
+        (Some (place.now.session.now, place.now.name.now, place.now.key.now, place.now.under.now)) value.now) }
 {
-    for r in peers {
-        if !has_kept(alloc, opening, place, value, r)? {
+    let keeps = keeps(opening.sessions, opening.tag, place.session);
+    let named = has_name(place.session, place.name);
+    if keeps && named {
+        let key = era_key(alloc, place.session.activation, place.under)?;
+        Ok(is_value(opening.values.get(key.as_slice()), value))
+    } else {
+        Ok(false)
+    }
+}
+
+/// Whether there is a value, and it is this.
+fn is_value(found: Option<&[u8]>, value: &[u8]) -> bool
+    ensures { result ≡ is_value (option_map (λ v. v.now) found.entry) value.now }
+{
+    match found {
+        Some(other) => other == value,
+        None => false,
+    }
+}
+
+/// Whether each session that keeps values under the tag has them in its rows. It ends at the first value that isn't
+/// there, and each that is has a row of its own.
+fn have_kept(alloc: Global, opening: &Opening) -> Result<bool, AllocError>
+    requires ascend { Ascend opening.now.sessions.now }
+    requires tag { IsKeptTag opening.now.tag }
+    ensures { IfOk result (λ have. have ≡ have_kept opening.now.sessions.now opening.now.values.now opening.now.tag
+        opening.now.rows.now opening.now.sessions.now) }
+{
+    for r in opening.sessions {
+        if !has_kept(alloc, opening, r)? {
             return Ok(false);
         }
     }
     Ok(true)
 }
 
-/// Whether a session has this value, where it keeps values of the name, and else none.
-fn has_kept(
-    alloc: Global,
-    opening: &Opening,
-    place: &Place,
-    value: Option<&[u8]>,
-    r: &Record,
-) -> Result<bool, AllocError>
+/// Whether a session has in its rows what it keeps under the tag, if it keeps values there.
+fn has_kept(alloc: Global, opening: &Opening, r: &Record) -> Result<bool, AllocError>
     requires ascend { Ascend opening.now.sessions.now }
     requires tag { IsKeptTag opening.now.tag }
-    ensures { IfOk result (λ has. has ≡ has_kept opening.now.rows.now opening.now.sessions.now opening.now.boots
-        opening.now.tag place.now.name.now place.now.under.now (option_map (λ v. v.now) value.entry) r.now) }
+    ensures { IfOk result (λ has. has ≡ has_kept opening.now.sessions.now opening.now.values.now opening.now.tag
+        opening.now.rows.now r.now) }
 {
-    let key = key_under(alloc, opening.tag, r.id, place.under)?;
-    let found = opening.rows.get(key.as_slice());
-    if keeps(opening.sessions, opening.tag, r) && has_name(r, place.name) {
-        Ok(same_values(found, value))
+    if keeps(opening.sessions, opening.tag, r) {
+        has_names_kept(alloc, opening, r)
     } else {
-        Ok(found.is_none())
+        Ok(true)
     }
 }
 
-fn same_values(one: Option<&[u8]>, other: Option<&[u8]>) -> bool
-    ensures { result ≡ same_values (option_map (λ v. v.now) one.entry) (option_map (λ v. v.now) other.entry) }
+/// Whether a session's rows have all that its names had before its boot.
+fn has_names_kept(alloc: Global, opening: &Opening, r: &Record) -> Result<bool, AllocError>
+    ensures { IfOk result (λ has. has ≡ list_all (λ (p : PartOf). has_name_kept opening.now.sessions.now opening.now.values.now
+        opening.now.tag opening.now.rows.now r.now p.name) r.now.parts) }
 {
-    match one {
-        Some(value) => match other {
-            Some(another) => value == another,
-            None => false,
-        },
-        None => other.is_none(),
+    for p in r.parts.as_slice() {
+        if !has_name_kept(alloc, opening, r, &p.name)? {
+            return Ok(false);
+        }
     }
+    Ok(true)
+}
+
+/// Whether a session's rows have all that a name had before its boot.
+fn has_name_kept(
+    alloc: Global,
+    opening: &Opening,
+    r: &Record,
+    name: &Name,
+) -> Result<bool, AllocError>
+    ensures { IfOk result (λ has. has ≡ has_name_kept opening.now.sessions.now opening.now.values.now opening.now.tag
+        opening.now.rows.now r.now name.now) }
+{
+    let before = era_front(alloc, r.activation, name)?;
+    let values = rows_after(alloc, opening.values, before.as_slice())?;
+    let front = kept_front(alloc, opening.tag, r.id, name)?;
+    has_values(alloc, opening.rows, front.as_slice(), values.as_slice())
+}
+
+/// Whether the rows have each of these values under its key after the front.
+fn has_values(
+    alloc: Global,
+    rows: &Rows,
+    front: &[u8],
+    values: &[RowAfter],
+) -> Result<bool, AllocError>
+    ensures { IfOk result (λ has. has ≡ list_all (λ (row : List ℕ × List ℕ). is_value (fin.get rows.now (front.now ++ row.0)) row.1)
+        (map (λ row. (row.key.now, row.value.now)) values.now)) }
+{
+    for row in values {
+        if !has_value(alloc, rows, front, row)? {
+            return Ok(false);
+        }
+    }
+    Ok(true)
+}
+
+/// Whether the rows have a value under its key after the front.
+fn has_value(alloc: Global, rows: &Rows, front: &[u8], row: &RowAfter) -> Result<bool, AllocError>
+    ensures { IfOk result (λ has. has ≡ is_value (fin.get rows.now (front.now ++ row.now.key.now)) row.now.value.now) }
+{
+    let key = joined(alloc, front, row.key)?;
+    Ok(is_value(rows.get(key.as_slice()), row.value))
 }

@@ -2,7 +2,7 @@
 //! that `a` had before it.
 
 use super::*;
-use apex_base::Listed;
+use apex_base::Bytes;
 use row_map::Rows;
 use std::alloc::{AllocError, Global};
 use std::test::*;
@@ -28,7 +28,7 @@ const OF_NO_SESSION: [u8; 8] = [7, 0, 0, 0, 6, 1, 97, 107];
 fn put(alloc: Global, rows: &mut Rows, key: &[u8], value: &[u8]) -> Result<(), AllocError> {
     let key = key.to_vec(alloc)?;
     let value = value.to_vec(alloc)?;
-    rows.put(key, Listed::of(value))
+    rows.put(key, Bytes::of(value))
 }
 
 /// The boots, the session, and a value at this key.
@@ -75,5 +75,28 @@ fn a_snapshot_of_no_session_is_wrong(rt: HostRuntime) -> Result<(), Fail> {
         .ok()
         .ok_or("there is memory")?;
     assert!(rt; !right.0 && right.1);
+    Ok(())
+}
+
+/// Whether the rows of tag 7 are right where boot 2 activated session 6 too, and that keeps this value of `a` under `k`.
+fn are_right_beside(alloc: Global, value: &[u8]) -> Result<bool, AllocError> {
+    let mut rows = store(alloc, &SNAPSHOT)?;
+    put(alloc, &mut rows, &[2, 0, 0, 0, 6], &SESSION)?;
+    put(alloc, &mut rows, &OF_NO_SESSION, value)?;
+    let sessions = opened_sessions(alloc, &rows)?;
+    let boots = opened_boots(alloc, &rows)?;
+    is_right_kept(alloc, 7, &rows, sessions.as_slice(), boots.count)
+}
+
+/// The value of the first session counts: 118.
+#[test]
+fn sessions_of_one_boot_keep_one_value(rt: HostRuntime) -> Result<(), Fail> {
+    let same = are_right_beside(rt.alloc(), &[118])
+        .ok()
+        .ok_or("there is memory")?;
+    let other = are_right_beside(rt.alloc(), &[119])
+        .ok()
+        .ok_or("there is memory")?;
+    assert!(rt; same && !other);
     Ok(())
 }

@@ -5,6 +5,7 @@ mod alone;
 mod boots;
 mod eras;
 mod files;
+mod fronts;
 mod keeping;
 mod kept;
 mod kept_laws;

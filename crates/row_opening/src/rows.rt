@@ -5,8 +5,8 @@ ghost use Rattle.apex_base.specs.Text.{is_name};
 ghost use Rattle.apex_world.specs.Opened.{end_of};
 ghost use Rattle.row_opening.specs.RightRows.{is_data_row, is_watch_row, record_in_row};
 
-use apex_base::{Name, Record, SessionId};
-use session_record::{decode_record, short_at, u32_at, u64_at};
+use apex_base::{Name, Record, SessionId, short_at, u32_at, u64_at};
+use session_record::decode_record;
 use std::alloc::{AllocError, Global};
 
 /// The record that a row of tag 2 spells, by its key without the tag.

@@ -1,6 +1,6 @@
 //! What no clause says: that the calls succeed.
 use super::*;
-use apex_base::{Listed, Why};
+use apex_base::{Bytes, Why};
 use row_map::Rows;
 use std::test::*;
 
@@ -21,7 +21,7 @@ fn rows_of(rt: &HostRuntime, value: &[u8]) -> Result<Rows, Fail> {
     let value = Vec::from_slice(rt.alloc(), value)
         .ok()
         .ok_or("there is memory")?;
-    rows.put(key, Listed::of(value))
+    rows.put(key, Bytes::of(value))
         .ok()
         .ok_or("there is memory")?;
     Ok(rows)
@@ -82,7 +82,7 @@ fn rows_with(rt: &HostRuntime, entries: &[(&[u8], &[u8])]) -> Result<Rows, Fail>
         let value = Vec::from_slice(rt.alloc(), *value)
             .ok()
             .ok_or("there is memory")?;
-        rows.put(key, Listed::of(value))
+        rows.put(key, Bytes::of(value))
             .ok()
             .ok_or("there is memory")?;
     }

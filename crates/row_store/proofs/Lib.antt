@@ -1,4 +1,4 @@
-mod Batches
+pub mod Batches
 mod Commits
 mod Once
 mod Opened

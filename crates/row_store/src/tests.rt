@@ -4,7 +4,7 @@ ghost use Rattle.std.specs.Prelude.{◌≡◌, ◌<◌, ◌^◌, ℕ, length, If
 ghost use Rattle.row_codec.specs.Batch.{IsBatch, IsRow};
 
 use crate::{CommitWhy, RowStore, Rows, StoreWhy};
-use apex_base::{Bytes, Scale};
+use apex_base::{Bytes, Listed, Scale};
 use apex_disk::{Device, Disk, FileDisk, MemDisk};
 use row_codec::Row;
 use std::alloc::{AllocError, Global};
@@ -19,7 +19,7 @@ fn row(alloc: Global, key: [u8; 2], value: Option<u32>) -> Result<Row, AllocErro
     ensures key { IfOk result (λ row. row.key ≡ key) }
     ensures row { IfOk result IsRow }
 {
-    let key = Bytes::of(key.to_vec(alloc)?);
+    let key = Listed::of(key.to_vec(alloc)?);
     let value = match value {
         Some(value) => Some(Bytes::of(value.to_be_bytes().to_vec(alloc)?)),
         None => None,
@@ -57,7 +57,7 @@ fn one(alloc: Global, value: Vec<u8>) -> Result<Vec<Row>, AllocError>
     requires { length value.items < 2 ^ 32 }
     ensures { IfOk result (λ rows. (seq : ℕ) → seq < 2 ^ 64 → IsBatch (record { seq = seq; rows = rows.items })) }
 {
-    let key = Bytes::of([1].to_vec(alloc)?);
+    let key = Listed::of([1].to_vec(alloc)?);
     let value = Some(Bytes::of(value));
     let mut rows = Vec::new(alloc);
     rows.push(Row { key, value })?;

@@ -10,7 +10,8 @@ use Rattle.apex_base.specs.Ranges.{IsVersion, IsMillis}
 use Rattle.apex_base.specs.Reading.{byte_at, bytes_at, number_at, four_text, eight_text, short_text, short_at}
 use Rattle.apex_base.specs.Spelling.{name_at, print_at, moment_at, version_number, version_of_number}
 use Rattle.apex_base.specs.Text.{is_name, is_print, name_of, print_of}
-use Rattle.session_record.proofs.Steps.{bind_holds, AreBytes, AreBytes-drop, AreBytes-take, AreBytes-rest, Took}
+use Rattle.apex_base.proofs.ByteLists.{AreBytes, AreBytes-drop, AreBytes-take, AreBytes-rest}
+use Rattle.session_record.proofs.Steps.{bind_holds, Took}
 
 -- Tests
 

@@ -13,7 +13,8 @@ use Rattle.apex_base.specs.Moves.{state_number}
 use Rattle.apex_base.specs.Numbers.{version_of}
 use Rattle.apex_base.specs.Reading.{byte_at, number_at, four_text, eight_text, short_text}
 use Rattle.apex_base.specs.Spelling.{state_of_number, state_at, kind_text, kind_of_numbers, kind_at, rollback_number, rollback_of_number, rollback_at, name_at, case_number, case_of_number, cause_text, superseded_at, case_at, cause_at, target_text, module_at, target_at, version_number, version_of_number, part_text, part_at, IsKind, IsCause, IsTarget, IsPart}
-use Rattle.session_record.proofs.Steps.{bind_holds, AreBytes, AreBytes-rest, Took}
+use Rattle.apex_base.proofs.ByteLists.{AreBytes, AreBytes-rest}
+use Rattle.session_record.proofs.Steps.{bind_holds, Took}
 use Rattle.session_record.proofs.Took.{if_holds, taken_holds, chosen_holds, took_as, took_then, byte_took, four_took, eight_took, name_took, version_took, some_version_took}
 
 state_numbered : (n : ℕ) → IfSome (state_of_number n) (λ s. n ≡ state_number s)

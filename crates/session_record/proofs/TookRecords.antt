@@ -11,7 +11,8 @@ use Rattle.apex_base.specs.Moves.{state_number}
 use Rattle.apex_base.specs.Reading.{byte_at, number_at, four_text, eight_text, short_text, at_end}
 use Rattle.apex_base.specs.Spelling.{state_at, kind_text, kind_at, rollback_number, rollback_at, print_at, moment_at, cause_text, cause_at, part_text, part_at, parts_text, parts_at, children_of, record_text, record_of, IsId, IsPart, Spells}
 use Rattle.apex_base.proofs.SpellingLemmas.{record_again}
-use Rattle.session_record.proofs.Steps.{bind_holds, AreBytes, Took}
+use Rattle.apex_base.proofs.ByteLists.{AreBytes}
+use Rattle.session_record.proofs.Steps.{bind_holds, Took}
 use Rattle.session_record.proofs.Took.{if_holds, taken_holds, byte_took, four_took, print_took, moment_took}
 use Rattle.session_record.proofs.TookFields.{state_took, kind_took, rollback_took, cause_took, part_took}
 

@@ -5,8 +5,11 @@ ghost use Rattle.apex_base.specs.Spelling.{state_of_number, state_at, kind_of_nu
 ghost use Rattle.apex_base.specs.Spelling.{rollback_at, case_of_number, superseded_at, case_at, cause_at, module_at};
 ghost use Rattle.apex_base.specs.Spelling.{target_at, version_of_number, part_at};
 
-use crate::reading::{byte_at, name_at, u32_at, u64_at};
-use apex_base::{Case, Cause, Kind, Part, RollbackState, SessionId, State, Target, Version};
+use crate::reading::name_at;
+use apex_base::{
+    Case, Cause, Kind, Part, RollbackState, SessionId, State, Target, Version, byte_at, u32_at,
+    u64_at,
+};
 
 #[tactic(auto, unfolding(apex_base::specs::Spelling::state_at))]
 pub fn state_at(bytes: &[u8]) -> Option<(State, &[u8])>

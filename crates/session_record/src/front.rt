@@ -4,8 +4,8 @@ ghost use Rattle.std.specs.Option.{option_map};
 ghost use Rattle.session_record.specs.Front.{front_at};
 
 use crate::fields::{cause_at, kind_at, rollback_at, state_at};
-use crate::reading::{byte_at, moment_at, print_at, u32_at};
-use apex_base::{Cause, Kind, Millis, Print, RollbackState, State};
+use crate::reading::{moment_at, print_at};
+use apex_base::{Cause, Kind, Millis, Print, RollbackState, State, byte_at, u32_at};
 
 /// What a record says before its parts, and how many parts and children follow.
 #[derive(Clone, Copy)]

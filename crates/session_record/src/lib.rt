@@ -18,4 +18,4 @@ pub use decode::decode_record;
 pub use encode::encode_record;
 pub use fields::target_at;
 pub use laws::spelling_undoes_reading;
-pub use reading::{byte_at, moment_at, short_at, u32_at, u64_at};
+pub use reading::moment_at;

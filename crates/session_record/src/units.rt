@@ -4,8 +4,7 @@ ghost use Rattle.std.specs.Option.{option_map};
 ghost use Rattle.session_record.specs.Units.{child_of, unit_at, with_child, units_at};
 
 use crate::fields::part_at;
-use crate::reading::u32_at;
-use apex_base::{Part, SessionId};
+use apex_base::{Part, SessionId, u32_at};
 use std::alloc::{AllocError, Global};
 
 /// The parts of a session, and its children.

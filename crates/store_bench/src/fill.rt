@@ -3,7 +3,7 @@ ghost use Rattle.std.specs.Prelude.{◌≡◌, ◌<◌, ◌^◌, ℕ, length, If
 ghost use Rattle.row_codec.specs.Batch.{IsBatch};
 
 use crate::why::Why;
-use apex_base::Bytes;
+use apex_base::{Bytes, Listed};
 use apex_disk::Disk;
 use row_codec::Row;
 use row_store::RowStore;
@@ -30,7 +30,7 @@ pub fn fill<D: Disk>(
 fn one_row(alloc: Global, key: u32, len: u32) -> Result<Vec<Row>, AllocError>
     ensures { IfOk result (λ rows. (seq : ℕ) → seq < 2 ^ 64 → IsBatch (record { seq = seq; rows = rows.items })) }
 {
-    let key = Bytes::of(key.to_be_bytes().to_vec(alloc)?);
+    let key = Listed::of(key.to_be_bytes().to_vec(alloc)?);
     let value = Some(Bytes::of(value(alloc, len)?));
     let mut rows = Vec::new(alloc);
     rows.push(Row { key, value })?;

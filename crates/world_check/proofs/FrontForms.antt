@@ -1,4 +1,4 @@
--- What the rows say whose keys have a front. Callers want `fronted` and `full_front`.
+-- What the rows say whose keys have a front. Callers want `fronted`, `full_front` and `one_front`.
 use Rattle.std.proofs.Common.{◌≡◌, ◌⊎◌, ℕ, ◌+◌, ◌<◌, ◌^◌, List, ◌∷◌, ◌++◌, length, Option, Some, None, sym, ap}
 use Rattle.std.proofs.Common.{subst, ◌∙◌, refl, inl, inr, arith}
 use Rattle.std.specs.FinMap as fin
@@ -65,7 +65,8 @@ pub record IsKeptRow (m : RowMap) (q v front : List ℕ) : Type 0 where
 abbrev pub IsFronted : RowMap → List ℕ → List ℕ → List ℕ → Type 0
 IsFronted m q v front = IsDataRow m q v front ⊎ IsKeptRow m q v front
 
-one_front : (f g : List ℕ) (o : Option (List ℕ)) → o ≡ Some f → o ≡ Some g → f ≡ g
+-- what is found twice is one
+pub one_front : (f g : List ℕ) (o : Option (List ℕ)) → o ≡ Some f → o ≡ Some g → f ≡ g
 one_front f g None a b = absurd (cc a)
 one_front f g (Some h) a b = cc (a, b)
 

@@ -22,14 +22,14 @@ use Rattle.apex_world.specs.Opened.{opened, opened_files, opened_sessions}
 use Rattle.apex_world.specs.Soundness.{checked}
 use Rattle.apex_world.specs.World.{World}
 use Rattle.apex_world.proofs.HeldModules.{this_module}
+use Rattle.apex_world.proofs.ModulesOpened.{got_in, mods, module_of, is_opened, mods_back, mods_there, content_of}
 use Rattle.apex_world.proofs.WorldRows.{submission_of}
 use Rattle.session_check.specs.LawfulSessions.{AreLawfulSessions}
 use Rattle.world_check.specs.LawfulParts.{HasLawfulModules}
 use Rattle.world_check.specs.RightModules.{less_sessions}
 use Rattle.world_check.proofs.ModulesTaken.{AllRight, sessions_taken, sessions_take}
-use Rattle.world_check.proofs.OpenedParts.{mods, module_of, is_opened, mods_back, content_of, own_there}
-use Rattle.world_check.proofs.OpenedParts.{mods_there, mod_found, modules_distinct}
-use Rattle.world_check.proofs.Owners.{got_in, owned, kept_owned, place_of}
+use Rattle.world_check.proofs.OpenedParts.{own_there, part_found, distinct_modules}
+use Rattle.world_check.proofs.Owners.{owned, kept_owned, place_of}
 
 some_is : {A : Type 0} (x y : A) → Some x ≡ Some y → x ≡ y
 some_is x y e = cc
@@ -74,7 +74,7 @@ module _ (n : ℕ) (m : RowMap) (scale : Scale) (law : AreLawfulSessions n (open
         record {
           content = opened_files m session part;
           name = name;
-          there = mod_found m ss name session part version o is_kept;
+          there = part_found m ss name session part version o is_kept;
           checks = says ∙ ap (λ (a : List ℕ). Ok (record { name = a; version = version })) o.named;
           says = place_of n ss law name session part version o;
         }
@@ -87,7 +87,7 @@ module _ (n : ℕ) (m : RowMap) (scale : Scale) (law : AreLawfulSessions n (open
         ap (λ (q : Option Part). is_some q) (place_of n ss law p.name s.session s.part o.version own)
 
     have_modules : HaveModules w
-    have_modules = record { kept = kept_is; distinct = modules_distinct m ss n law; owned = owned_at }
+    have_modules = record { kept = kept_is; distinct = distinct_modules m ss n law; owned = owned_at }
 
   module _ (l : HasLawfulModules w) where
     all_right : AllRight m ss ss

@@ -22,8 +22,8 @@ use Rattle.apex_world.specs.Limits.{target_weight}
 use Rattle.apex_world.specs.Opened.{opened_files, opened_module}
 use Rattle.apex_world.specs.Soundness.{checked}
 use Rattle.apex_world.proofs.DecidedTables.{module_decides, says_decides}
+use Rattle.apex_world.proofs.ModulesOpened.{part_modules, module_of}
 use Rattle.world_check.specs.RightModules.{less, if_module, less_module, less_target, less_parts, less_sessions}
-use Rattle.world_check.proofs.OpenedParts.{part_modules, module_of}
 
 some_is : {A : Type 0} (x y : A) → Some x ≡ Some y → x ≡ y
 some_is x y e = cc

@@ -27,7 +27,8 @@ use Rattle.row_opening.specs.BadRows.{opened_rows}
 use Rattle.row_opening.proofs.OpenedRecords.{any_holds, end_holds, is_record_in, session_row, sessions_ascend}
 use Rattle.row_opening.proofs.OpenedWorld.{opened_row}
 use Rattle.session_check.specs.LawfulSessions.{AreLawfulSessions}
-use Rattle.session_record.proofs.Steps.{bind_holds, AreBytes, Took}
+use Rattle.apex_base.proofs.ByteLists.{AreBytes}
+use Rattle.session_record.proofs.Steps.{bind_holds, Took}
 use Rattle.session_record.proofs.Took.{taken_holds, four_took}
 use Rattle.session_record.proofs.TookRecords.{read_is_spelled}
 use Rattle.world_check.proofs.FitTexts.{HasTexts, boots_fit, record_fit, fit_bytes}

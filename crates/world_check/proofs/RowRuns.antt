@@ -1,20 +1,22 @@
 -- The rows of one front stand next to each other, since rows stand in the order of their keys. Callers want
 -- `weight_back`, `weight_there`, `rows_together` and `rows_begin`.
 use Rattle.std.proofs.Common.{◌≡◌, ℕ, true, List, [], ◌∷◌, ◌++◌, Option, Some, None, sym, ap, subst, ◌∙◌}
-use Rattle.std.proofs.Common.{refl, inl, inr, arith}
+use Rattle.std.proofs.Common.{refl, inl, inr}
 use Rattle.std.specs.FinMap.{is_sorted}
 use Rattle.std.specs.FinMap.Entries.{below_all}
-use Rattle.std.specs.Ordering.{nat_cmp}
+use Rattle.std.specs.BTreeMap.Comparable.{le_lt_trans}
+use Rattle.std.specs.Ordering.{nat_cmp, is_le}
 use Rattle.std.specs.declared.cmp.Ordering.TheVariants.{Less}
-use Rattle.std.specs.Cmp.Lexicographic.{slice_cmp}
+use Rattle.std.specs.Cmp.Lexicographic.{slice_cmp, nat_list_cmp_total}
 use Rattle.std.specs.Str.{bytes_eq}
 use Rattle.std.proofs.lemmas.Bool.{true≢false, and_parts}
 use Rattle.std.proofs.lemmas.Slice.Eq.{bytes_eq-Decides}
 use Rattle.apex_base.specs.Members.{In}
 use Rattle.apex_base.proofs.Finding.{some_of}
-use Rattle.row_opening.proofs.KeyOrder.{first_less, below_less}
+use Rattle.package_store.proofs.Fronts.{front_le, between as begun}
+use Rattle.row_opening.proofs.KeyOrder.{below_less}
 use Rattle.world_check.specs.DataRows.{Row, front_of, value_weight, weighed, with_some, weights_in}
-use Rattle.world_check.proofs.FrontForms.{IsFull}
+use Rattle.world_check.proofs.FrontForms.{IsFull, one_front}
 use Rattle.world_check.proofs.RunSums.{GoesOn, StandTogether}
 
 abbrev pub Item : Type 0
@@ -23,21 +25,9 @@ Item = List ℕ × ℕ
 -- a key between two that begin with a front begins with it
 between : (f a c k : List ℕ) → slice_cmp nat_cmp (f ++ a) k ≡ Less → slice_cmp nat_cmp k (f ++ c) ≡ Less
     → (b : List ℕ) × (k ≡ f ++ b)
-between [] a c k low high = (k, refl)
-between (x ∷ f) a c [] low high = absurd (cc low)
-between (x ∷ f) a c (y ∷ k) low high =
-    elim (first_less x y (slice_cmp nat_cmp (f ++ a) k) low) [
-      | inl l ↦ elim (first_less y x (slice_cmp nat_cmp k (f ++ c)) high) [
-        | inl r ↦ absurd (omega (arith, l, r))
-        | inr r ↦ let e = r.0 in absurd (omega (arith, l, e))
-      ]
-      | inr l ↦ elim (first_less y x (slice_cmp nat_cmp k (f ++ c)) high) [
-        | inl r ↦ let e = l.0 in absurd (omega (arith, r, e))
-        | inr r ↦
-            let (b, is) = between f a c k l.1 r.1 in
-            (b, ap (λ (z : ℕ). z ∷ k) r.0 ∙ ap (λ (zs : List ℕ). x ∷ zs) is)
-      ]
-    ]
+between f a c k low high =
+    let less = le_lt_trans nat_list_cmp_total f (f ++ a) k (front_le f a) low in
+    begun f k c (ap is_le less) high
 
 -- What is weighed
 
@@ -83,10 +73,6 @@ AllFull rows = (row : Row) (front : List ℕ) → In row rows → front_of row.0
 abbrev Follow : List ℕ → List Row → Type 0
 Follow k rows = (below_all (slice_cmp nat_cmp) k rows ≡ true) × (is_sorted (slice_cmp nat_cmp) rows ≡ true)
 
-same_front : (f g : List ℕ) (o : Option (List ℕ)) → o ≡ Some f → o ≡ Some g → f ≡ g
-same_front f g None a b = absurd (cc a)
-same_front f g (Some h) a b = cc (a, b)
-
 module _ (front a : List ℕ) (each : (b : List ℕ) → front_of (front ++ b) ≡ Some front) where
   abbrev first : List ℕ
   first = front ++ a
@@ -103,7 +89,7 @@ module _ (front a : List ℕ) (each : (b : List ℕ) → front_of (front ++ b) �
       let high = subst (λ (k : List ℕ). slice_cmp nat_cmp e.0 k ≡ Less) begins
       (below_less e.0 es row (and_parts _ _ up.1).0 i) in
       let (b, is) = between front a full.key e.0 low high in
-      let same : front ≡ y.0 = same_front front y.0 (front_of e.0) (ap front_of is ∙ each b) (weighed_as e y w).0 in
+      let same : front ≡ y.0 = one_front front y.0 (front_of e.0) (ap front_of is ∙ each b) (weighed_as e y w).0 in
       true≢false (sym ((bytes_eq-Decides front y.0).1 same) ∙ other)
 
   goes : (es : List Row) → Follow first es → AllFull es → GoesOn bytes_eq bytes_eq-Decides front (weights_in es)

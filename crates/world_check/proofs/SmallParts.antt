@@ -10,17 +10,16 @@ use Rattle.apex_base.specs.declared.records.Kind.{Kind}
 use Rattle.apex_base.specs.declared.records.Kind.TheVariants.{Plain, WithRollback, RollbackOf}
 use Rattle.apex_base.specs.declared.records.Part.{Part}
 use Rattle.apex_base.specs.declared.records.Record.{Record}
-use Rattle.apex_base.specs.declared.records.State.{State}
-use Rattle.apex_base.specs.declared.records.State.TheVariants as state
 use Rattle.apex_base.specs.Commit.{part_before}
 use Rattle.apex_base.specs.Held.{before, is_success}
 use Rattle.apex_base.specs.Members.{In}
 use Rattle.apex_base.specs.Sessions.{session_of}
 use Rattle.apex_base.proofs.MemberLemmas.{in_map_back, each_in, in_each}
 use Rattle.apex_base.proofs.SessionLemmas.{of_found}
-use Rattle.apex_world.specs.Lawful.{AreOwn, never_activated}
+use Rattle.apex_world.specs.Lawful.{AreOwn}
 use Rattle.apex_world.specs.Rows.{undoes}
 use Rattle.apex_world.proofs.LatestLemmas.{named_by, latest_is}
+use Rattle.apex_world.proofs.StateFacts.{success_activated}
 use Rattle.session_check.specs.LawfulSessions.{AreLawfulSessions}
 use Rattle.session_record.specs.Room.{HasPartNumber, HasRoom}
 
@@ -37,16 +36,6 @@ own_small id k (p ∷ ps) own few =
     let low : k < 256 = omega (arith, few) in
     let rest : k + 1 + length ps ≤ 256 = omega (arith, few) in
     (subst HasPartNumber (sym own.0.1) low, own_small id (k + 1) ps own.1 rest)
-
-success_activated : (s : State) → is_success s ≡ true → never_activated s ≡ false
-success_activated state.Verified e = absurd (cc)
-success_activated state.Staged e = absurd (cc)
-success_activated state.Activated e = refl
-success_activated state.ActivationFailed e = absurd (cc)
-success_activated state.Success e = refl
-success_activated state.RevertInProgress e = refl
-success_activated state.Reverted e = refl
-success_activated state.Aborted e = absurd (cc)
 
 module _ (boots : ℕ) (ss : List Record) (law : AreLawfulSessions boots ss) where
   -- the sessions that succeeded, of those that were activated before x

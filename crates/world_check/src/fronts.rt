@@ -6,8 +6,7 @@ ghost use Rattle.apex_base.specs.Reading.{number_at};
 ghost use Rattle.apex_base.specs.Sessions.{Ascend};
 ghost use Rattle.world_check.specs.DataRows.{front_by, front_of, up_to_name, activation_at, boot_of};
 
-use apex_base::{Record, session_of};
-use session_record::u32_at;
+use apex_base::{Record, session_of, u32_at};
 
 /// The tag of the rows of data. Those of snapshots and of values before a rollback are the next two.
 const DATA: u8 = 6;

@@ -1,26 +1,26 @@
 //! Rows of files: whether each module that is kept is there, is sound, and says its part's name and version.
-ghost use Rattle.std.specs.Prelude.{◌≡◌, ◌<◌, ℕ, [], Decides, IfOk, true, false, option_map};
+ghost use Rattle.std.specs.Prelude.{◌≡◌, ◌<◌, ℕ, Decides, IfOk, true, false};
 ghost use Rattle.std.specs.List.{AllByRecursion};
 ghost use Rattle.apex_base.specs.declared.numbers.SessionId.{SessionId as Id};
 ghost use Rattle.apex_base.specs.Held.{is_target, kept};
-ghost use Rattle.apex_base.specs.Keys.{file_front};
 ghost use Rattle.apex_base.specs.Modules.{IsModule};
 ghost use Rattle.apex_base.specs.Text.{path_of};
 ghost use Rattle.apex_world.specs.Decided.{says};
 ghost use Rattle.apex_world.specs.Opened.{opened, opened_boots, opened_files, opened_sessions};
 ghost use Rattle.apex_world.specs.Soundness.{checked};
 ghost use Rattle.package_store.specs.Keeping.{has_part};
-ghost use Rattle.package_store.specs.Placed.{path_in};
 ghost use Rattle.package_store.specs.Settled.{HasPart, HaveParts};
 ghost use Rattle.session_check.specs.LawfulSessions.{AreLawfulSessions};
 ghost use Rattle.world_check.specs.FilesRead.{with_file, IsTooMuch};
 ghost use Rattle.world_check.specs.LawfulParts.{HasLawfulModules};
 ghost use Rattle.world_check.specs.RightModules.{if_module, less_module, less_target, less_parts, less_sessions};
 
-use apex_base::{FilePath, Module, Name, Part, PutWhy, Record, Scale, SessionId, Target, Version};
+use apex_base::{
+    Bytes, FilePath, Module, Name, Part, PutWhy, Record, Scale, SessionId, Target, Version,
+};
 use apex_manifest::ManifestWhy;
 use apex_world::check_module;
-use package_store::{KeptParts, held_by_name};
+use package_store::{KeptParts, file_front, held_by_name, path_in};
 use row_map::Rows;
 use std::alloc::{AllocError, Global};
 
@@ -172,7 +172,7 @@ fn module_in(
         let Some(path) = path_in(session, part, key) else {
             break;
         };
-        if !add_file(alloc, &mut files, path, content.as_slice())? {
+        if !add_file(alloc, &mut files, path, content)? {
             return Ok(None);
         }
     }
@@ -187,36 +187,12 @@ fn known_module(files: &Module)
     let _ = files.files();
 }
 
-/// The first bytes of the keys of a module's files.
-fn file_front(session: SessionId, part: u32) -> [u8; 6]
-    requires { part < 256 }
-    ensures { result ≡ file_front session part [] }
-{
-    let [a, b, c, d] = session.0.to_be_bytes();
-    [5, a, b, c, d, part as u8]
-}
-
-/// The path in the key of a module's file.
-fn path_in(session: SessionId, part: u32, key: &[u8]) -> Option<&[u8]>
-    ensures { option_map (λ path. path.now) result ≡ path_in session part key.now }
-{
-    let Some((front, path)) = key.split_first_chunk::<6>() else {
-        return None;
-    };
-    let [tag, a, b, c, d, number] = *front;
-    if tag == 5 && [a, b, c, d] == session.0.to_be_bytes() && u32::from(number) == part {
-        Some(path)
-    } else {
-        None
-    }
-}
-
 /// Puts a file into a module, if its path is one. False if the module can't have it.
 fn add_file(
     alloc: Global,
     files: &mut Module,
     path: &[u8],
-    content: &[u8],
+    content: &Bytes,
 ) -> Result<bool, AllocError>
     ensures put { IfOk result
         (λ has. has ≡ true → files.new ≡ with_file (path_of path.now) content.now files.old) }
@@ -225,10 +201,10 @@ fn add_file(
     let Some(path) = FilePath::read(path) else {
         return Ok(true);
     };
-    if content.len() > LENGTH {
+    if content.as_slice().len() > LENGTH {
         return Ok(false);
     }
-    match files.put(path, Vec::from_slice(alloc, content)?) {
+    match files.put(path, content.share(alloc)?) {
         Ok(()) => Ok(true),
         Err(PutWhy::NoMemory) => Err(AllocError),
         Err(PutWhy::Files) => Ok(false),

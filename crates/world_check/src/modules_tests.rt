@@ -2,7 +2,7 @@
 ghost use Rattle.std.specs.Prelude.{◌≡◌};
 
 use crate::modules::are_lawful_modules;
-use apex_base::{Listed, Scale};
+use apex_base::{Bytes, Scale};
 use row_map::Rows;
 use row_opening::{opened_boots, opened_sessions};
 use session_check::are_lawful;
@@ -24,7 +24,7 @@ const LISTING: &[u8] =
 fn put(alloc: Global, rows: &mut Rows, key: &[u8], value: &[u8]) -> Result<(), AllocError> {
     let key = key.to_vec(alloc)?;
     let value = value.to_vec(alloc)?;
-    rows.put(key, Listed::of(value))
+    rows.put(key, Bytes::of(value))
 }
 
 /// The session and the two files of its module, with this text as the manifest.

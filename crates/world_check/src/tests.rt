@@ -1,6 +1,6 @@
 //! What no clause says: with ample memory there is an answer.
 use crate::is_lawful;
-use apex_base::{Listed, Scale};
+use apex_base::{Bytes, Scale};
 use row_map::Rows;
 use row_opening::open_rows;
 use std::test::*;
@@ -35,7 +35,7 @@ fn the_world_after_one_boot_is_lawful(rt: HostRuntime) -> Result<(), Fail> {
     let mut rows = Rows::new(rt.alloc());
     let key = Vec::from_slice(rt.alloc(), &[1])?;
     let value = Vec::from_slice(rt.alloc(), &ONE_BOOT)?;
-    rows.put(key, Listed::of(value))?;
+    rows.put(key, Bytes::of(value))?;
     assert!(rt; opens_lawful(&rt, &rows, Scale::Small)?);
     Ok(())
 }

@@ -9,9 +9,8 @@ ghost use Rattle.row_opening.specs.BadRows.{opened_rows};
 ghost use Rattle.world_check.specs.LawfulParts.{HasLawfulWatches};
 ghost use Rattle.world_check.specs.WatchRows.{is_in_time, one_less, left_after, left_after_all};
 
-use apex_base::Scale;
+use apex_base::{Scale, u64_at};
 use row_map::Rows;
-use session_record::u64_at;
 
 /// The tag of the rows of watches.
 const WATCH: u8 = 9;

@@ -29,6 +29,6 @@ pub fn text_said(alloc: Global, rest: &[u8]) -> Result<(FilePath, Bytes), LineEr
 {
     let (word, content) = cut_word(rest).ok_or(LineFault::Words)?;
     let path = read_or(2, FilePath::read(word))?;
-    let content = Bytes::of(content.to_vec(alloc)?);
+    let content = Bytes::shared(alloc, content.to_vec(alloc)?)?;
     Ok((path, content))
 }

@@ -15,5 +15,5 @@ returns-in-Ok c =
     more_ok (λ (kept : FileMap). kept ≡ c.put.new.self)
     (λ kept. key_of kept ≡ option_map (λ bytes. bytes.now) c.args.key)
     c.of-in-Ok.result c.of-in-Ok.ensures
-    (λ kept e. one_key kept c.in_ok-to_vec.field-0.items
-    (e ∙ c.in-Ok.ensures.put ∙ rw (c.new-files.ensures, c.key.ensures) refl) ∙ ap Some same ∙ rw c.in-Some.is refl)
+    (λ kept e. one_key kept c.of-2.result
+    (e ∙ c.in-Ok.ensures.put ∙ rw (c.new-files.ensures, c.key.ensures) refl) ∙ ap Some (c.of-2.ensures ∙ same) ∙ rw c.in-Some.is refl)

@@ -15,6 +15,9 @@ active_changes-requires c = λ name.
     subst (λ (best : Option Best). HasPart (target_of best)) (sym (c.requires.held name))
     (held_part c.args.records.now name c.requires.parts)
 
+pub add_backups-requires : goal.add_backups-requires
+add_backups-requires c = (c.args.records.now, c.requires.parts, c.requires.earlier)
+
 pub returns : goal.returns
 returns c =
     let records : List Record = c.args.records.now in

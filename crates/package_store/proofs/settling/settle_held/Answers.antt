@@ -46,7 +46,7 @@ loop-key-preserved c =
     row_settled records rows old c.settle_row.new.changes row rest s noted
 
 -- each key has its change where the loop ends
-noted : (c : goal.After-drop-kept-2) → (q : List ℕ) → fin.get c.loop-key.changes q
+noted : (c : goal.After-drop-earlier-2) → (q : List ℕ) → fin.get c.loop-key.changes q
     ≡ change_to (fin.get (rows_of c.args.rows.now.entries) q)
     (settled_value (rows_of c.args.rows.now.entries) c.args.records.now q)
 noted c =

@@ -1,7 +1,7 @@
 use Rattle.std.proofs.Common.{◌∷◌, [], ◌++◌, List, Some, ap, ◌∙◌, rules}
 use Rattle.row_codec.specs.declared.batch.Row.{Row}
 use Rattle.row_codec.specs.Batch.{IsRow}
-use Rattle.store_bench.proofs.Batches.{one_row}
+use Rattle.row_store.proofs.Batches.{one_row}
 use Rattle.store_bench.proofs.fill.one_row.Goals as goal
 
 pub returns : goal.returns

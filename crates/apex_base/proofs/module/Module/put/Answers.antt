@@ -14,11 +14,11 @@ on_ok (Err e) p f = tt
 
 pub invariant_of-self : goal.invariant_of-self
 invariant_of-self c =
-    let free = ap (λ m. put_fault m c.args.path c.args.bytes.items) c.self.view_is
-    ∙ sym (rw c.deref.ensures.value at c.put_fault.ensures) ∙ c.in_default.is in
-    put_holds c.insert.result _ _ c.args.path c.args.bytes.items c.self.invariant c.known.ensures free
+    let free = ap (λ m. put_fault m c.args.path c.args.bytes) c.self.view_is
+    ∙ sym (rw c.as_slice.ensures at c.put_fault.ensures) ∙ c.in_default.is in
+    put_holds c.insert.result _ _ c.args.path c.args.bytes c.self.invariant c.known.ensures free
     c.insert.ensures.ordered
-    (on_ok {P = Updates (slice_cmp nat_cmp) c.self.inside.files c.insert.new.self c.args.path (Some c.of.result)} _
+    (on_ok {P = Updates (slice_cmp nat_cmp) c.self.inside.files c.insert.new.self c.args.path (Some c.args.bytes)} _
     c.insert.ensures.updates (λ u. same_files _ _ (λ q. let e = u.0 q in grind (gets, rules)))) c.insert.ensures.err
 
 pub returns-in-Ok-clause-put : goal.returns-in-Ok-clause-put

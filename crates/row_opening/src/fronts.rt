@@ -1,0 +1,99 @@
+//! Rows whose keys begin alike.
+ghost use Rattle.std.specs.Prelude.{◌≡◌, ◌++◌, [], map, IfOk, OnOk, option_map};
+ghost use Rattle.std.specs.FinMap as fin;
+ghost use Rattle.apex_base.specs.Reading.{four_text, short_text};
+ghost use Rattle.row_opening.specs.KeptRows.{kept_text, era_key};
+ghost use Rattle.row_opening.specs.RowFronts.{rest_after, rows_after};
+
+use apex_base::{Name, SessionId};
+use row_map::Rows;
+use std::alloc::{AllocError, Global};
+
+/// A row whose key begins with a front: what follows it in the key, and the value.
+#[derive(Drop)]
+pub(crate) struct RowAfter<'a> {
+    pub(crate) key: &'a [u8],
+    pub(crate) value: &'a [u8],
+}
+
+/// The rows whose keys begin with a front, ascending by key. It reads these rows, and one more.
+pub(crate) fn rows_after<'a>(
+    alloc: Global,
+    rows: &'a Rows,
+    front: &[u8],
+) -> Result<Vec<RowAfter<'a>>, AllocError>
+    ensures { IfOk result (λ found. map (λ row. (row.key.now, row.value.now)) found.items
+        ≡ rows_after front.now (fin.entries rows.now)) }
+{
+    let start = front.to_vec(alloc)?;
+    let mut found = Vec::new(alloc);
+    for (key, value) in rows.by_key().range(&start..) {
+        let Some(key) = rest_after(key.as_slice(), front) else {
+            break;
+        };
+        let value = value.as_slice();
+        found.push(RowAfter { key, value })?;
+    }
+    Ok(found)
+}
+
+/// What follows a front in a key that begins with it.
+fn rest_after<'a>(key: &'a [u8], front: &[u8]) -> Option<&'a [u8]>
+    ensures { option_map (λ rest. rest.now) result ≡ rest_after front.now key.now }
+{
+    key.strip_prefix(front)
+}
+
+/// The front of the keys of what a session keeps of a name.
+pub(crate) fn kept_front(
+    alloc: Global,
+    tag: u8,
+    id: SessionId,
+    name: &Name,
+) -> Result<Vec<u8>, AllocError>
+    ensures { IfOk result (λ front. front.items ≡ kept_text tag id name.now []) }
+{
+    let mut front = Vec::with_capacity(alloc, 6)?;
+    front.push(tag)?;
+    front.extend_from_slice(&id.0.to_be_bytes())?;
+    push_name(name, &mut front)?;
+    Ok(front)
+}
+
+/// The front of the keys of what a name had before a boot.
+pub(crate) fn era_front(alloc: Global, boot: u32, name: &Name) -> Result<Vec<u8>, AllocError>
+    ensures { IfOk result (λ front. front.items ≡ era_key boot name.now []) }
+{
+    let mut front = era_key(alloc, boot, &[])?;
+    push_name(name, &mut front)?;
+    Ok(front)
+}
+
+/// The key of what a name had before a boot, by the name and the key in one.
+pub(crate) fn era_key(alloc: Global, boot: u32, under: &[u8]) -> Result<Vec<u8>, AllocError>
+    ensures { IfOk result (λ key. key.items ≡ four_text boot under.now) }
+{
+    let mut key = Vec::with_capacity(alloc, 4)?;
+    key.extend_from_slice(&boot.to_be_bytes())?;
+    key.extend_from_slice(under)?;
+    Ok(key)
+}
+
+/// Adds a name after its length.
+#[tactic(auto, using(session_record::proofs::Texts::name_short))]
+fn push_name(name: &Name, into: &mut Vec<u8>) -> Result<(), AllocError>
+    ensures { OnOk result (into.new.items ≡ into.old.items ++ short_text name.now []) }
+{
+    let bytes = name.as_bytes();
+    into.push(bytes.len() as u8)?;
+    into.extend_from_slice(bytes)
+}
+
+/// A front, and what follows it.
+pub(crate) fn joined(alloc: Global, front: &[u8], rest: &[u8]) -> Result<Vec<u8>, AllocError>
+    ensures { IfOk result (λ key. key.items ≡ front.now ++ rest.now) }
+{
+    let mut key = front.to_vec(alloc)?;
+    key.extend_from_slice(rest)?;
+    Ok(key)
+}
