@@ -1,22 +1,24 @@
--- What names held before each boot. Callers want `put_none`, `put_new`, `put_last`, `all_parts`,
--- `first_key`, `last_none` and `last_some`.
+-- What names held before each boot. Callers want `put_target`, `put_last`, `all_parts`, `no_targets`, `last_none` and
+-- `last_some`.
 use Rattle.std.proofs.Common.{◌≡◌, ◌<◌, ◌≤◌, ℕ, Bool, true, false, cond, List, [], ◌∷◌, ◌++◌}
 use Rattle.std.proofs.Common.{fold, Option, Some, None, nat_lt, ap, sym, subst, ◌∙◌, refl, inl, inr}
 use Rattle.std.proofs.Common.{arith}
 use Rattle.std.specs.Prelude.{find, is_some}
 use Rattle.std.specs.BTreeMap as tree
-use Rattle.std.specs.BTreeMap.Range.{IsRangeOf, IsInRange}
+use Rattle.std.specs.BTreeMap.{BTreeMap}
+use Rattle.std.specs.BTreeMap.Range.{IsRangeOf}
 use Rattle.std.specs.Cmp.{tied_itself, nat_cmp_total}
-use Rattle.std.specs.Cmp.Lexicographic.{slice_cmp, nat_list_cmp_total}
-use Rattle.std.specs.FinMap.{slice_cmp-IsAntisymmetric, nat_cmp-IsAntisymmetric}
-use Rattle.std.specs.Option.{option_map}
-use Rattle.std.specs.Ordering.{nat_cmp, ordering_then, is_gt, is_lt, is_eq}
+use Rattle.std.specs.Cmp.Lexicographic.{slice_cmp}
+use Rattle.std.specs.FinMap.{nat_cmp-IsAntisymmetric}
+use Rattle.std.specs.Option.{option_map, option_and_then, option_or}
+use Rattle.std.specs.Ordering.{nat_cmp, is_lt, is_eq}
 use Rattle.std.specs.Str.{bytes_eq}
 use Rattle.std.specs.declared.cmp.Ordering.{Ordering}
 use Rattle.std.specs.declared.cmp.Ordering.TheVariants.{Less, Equal, Greater}
-use Rattle.std.specs.declared.ops.Bound.TheVariants.{Included, Excluded}
+use Rattle.std.specs.declared.ops.Bound.TheVariants.{Excluded, Unbounded}
 use Rattle.std.proofs.lemmas.Bool.{ltb-true, ltb-false, cases_eq, cases_lt}
 use Rattle.std.proofs.lemmas.Bool.Decides.{nat_tests}
+use Rattle.std.proofs.lemmas.Map.Text.{is_eq-slice_cmp}
 use Rattle.std.proofs.lemmas.Slice.Eq.{bytes_eq-Decides}
 use Rattle.apex_base.specs.declared.records.Part.{Part}
 use Rattle.apex_base.specs.declared.records.Record.{Record}
@@ -24,37 +26,15 @@ use Rattle.apex_base.specs.declared.records.Target.{Target}
 use Rattle.apex_base.specs.declared.records.Target.TheVariants.{Preinstalled}
 use Rattle.apex_base.specs.Held.{candidate, later, target_of}
 use Rattle.package_store.specs.declared.earlier.EarlierTargets.{EarlierTargets}
-use Rattle.package_store.specs.Earlier.{key_cmp, target_at, IsLast, with_earlier}
+use Rattle.package_store.specs.Earlier.{target_at, IsLast, with_earlier}
 use Rattle.package_store.specs.Latest.{Best, with_part}
 use Rattle.package_store.proofs.LatestParts.{with_parts}
 
--- ---- keys
+abbrev Targets : Type 0
+Targets = BTreeMap ℕ Target
 
-abbrev names_cmp : List ℕ → List ℕ → Ordering
-names_cmp = slice_cmp nat_cmp
-
-same_name : (a b : List ℕ) → names_cmp a b ≡ Equal → a ≡ b
-same_name = slice_cmp-IsAntisymmetric nat_cmp-IsAntisymmetric
-
-itself : (a : List ℕ) → names_cmp a a ≡ Equal
-itself = tied_itself nat_list_cmp_total
-
--- keys of one name are ordered by boot
-one_name : (name : List ℕ) (a b : ℕ) → key_cmp (name, a) (name, b) ≡ nat_cmp a b
-one_name name a b = ap (λ (o : Ordering). ordering_then o (nat_cmp a b)) (itself name)
-
-equal_key : (o p : Ordering) → ordering_then o p ≡ Equal → (o ≡ Equal) × (p ≡ Equal)
-equal_key Less p e = absurd (cc)
-equal_key Equal p e = (refl, e)
-equal_key Greater p e = absurd (cc)
-
-other_key : (name n : List ℕ) (boot b : ℕ) (o : Ordering) (x y : Option Target) → key_cmp (name, boot) (n, b) ≡ o
-    → (n ≡ name → b ≡ boot → ⊥) → cond (is_eq o) x y ≡ y
-other_key name n boot b Less x y e differ = refl
-other_key name n boot b Equal x y e differ =
-    let same = equal_key (names_cmp name n) (nat_cmp boot b) e in
-    absurd (differ (sym (same_name name n same.0)) (sym (nat_cmp-IsAntisymmetric boot b same.1)))
-other_key name n boot b Greater x y e differ = refl
+abbrev targets_of : EarlierTargets → List ℕ → Option Targets
+targets_of earlier name = tree.get (slice_cmp nat_cmp) earlier.by_name name
 
 -- ---- one part more
 
@@ -67,28 +47,53 @@ pub record IsPut (old new : EarlierTargets) (name : List ℕ) (boot : ℕ) (targ
 other_name : (a b : List ℕ) → bytes_eq a b ≡ false → b ≡ a → ⊥
 other_name a b e same = let f = (bytes_eq-Decides a b).1 (sym same) in absurd (cc)
 
--- one is there, and stays
-pub put_none : (old : EarlierTargets) (name : List ℕ) (boot : ℕ) (target : Target)
-    → is_some (target_at old name boot) ≡ true → IsPut old old name boot target
-put_none old name boot target some = record {
-  stays = λ t e. e;
-  first = λ none. let nothing = ap (λ (o : Option Target). is_some o) none in absurd (cc);
-  others = λ n b differ. refl;
-}
+or_none : (o : Option Target) → option_or o None ≡ o
+or_none None = refl
+or_none (Some t) = refl
 
--- none is there, and this one is inserted
-pub put_new : (old new : EarlierTargets) (name : List ℕ) (boot : ℕ) (target : Target)
-    → is_some (target_at old name boot) ≡ false
-    → ((key : List ℕ × ℕ) → tree.get key_cmp new.targets key
-    ≡ cond (is_eq (key_cmp (name, boot) key)) (Some target) (tree.get key_cmp old.targets key))
-    → IsPut old new name boot target
-put_new old new name boot target none is = record {
-  stays = λ t e. let some = ap (λ (o : Option Target). is_some o) e in absurd (cc);
-  first = λ e. is (name, boot) ∙ ap (λ (o : Ordering). cond (is_eq o) (Some target) (target_at old name boot))
-      (one_name name boot boot ∙ tied_itself nat_cmp_total boot);
-  others = λ n b differ. is (n, b)
-      ∙ other_key name n boot b (key_cmp (name, boot) (n, b)) (Some target) (target_at old n b) refl differ;
-}
+other_boot : (boot b : ℕ) (o : Ordering) (t : Option Target) → nat_cmp boot b ≡ o → (b ≡ boot → ⊥)
+    → cond (is_eq o) t None ≡ None
+other_boot boot b Less t e differ = refl
+other_boot boot b Equal t e differ = absurd (differ (sym (nat_cmp-IsAntisymmetric boot b e)))
+other_boot boot b Greater t e differ = refl
+
+module _ (old new : EarlierTargets) (name : List ℕ) (boot : ℕ) (target : Target) (inner : Targets)
+    (is : (n : List ℕ) → targets_of new n
+    ≡ cond (is_eq (slice_cmp nat_cmp name n)) (Some inner) (targets_of old n))
+    (has : (b : ℕ) → tree.get nat_cmp inner b
+    ≡ option_or (target_at old name b) (cond (is_eq (nat_cmp boot b)) (Some target) None)) where
+  of_name : (n : List ℕ) (same : Bool) → bytes_eq name n ≡ same
+      → targets_of new n ≡ cond same (Some inner) (targets_of old n)
+  of_name n same e = is n
+      ∙ ap (λ (b : Bool). cond b (Some inner) (targets_of old n)) (is_eq-slice_cmp name n ∙ e)
+
+  at_name : (b : ℕ) → target_at new name b
+      ≡ option_or (target_at old name b) (cond (is_eq (nat_cmp boot b)) (Some target) None)
+  at_name b = ap (option_and_then (λ (ts : Targets). tree.get nat_cmp ts b))
+      (of_name name true ((bytes_eq-Decides name name).1 refl)) ∙ has b
+
+  at_boot : target_at new name boot ≡ option_or (target_at old name boot) (Some target)
+  at_boot = at_name boot
+      ∙ ap (λ (o : Ordering). option_or (target_at old name boot) (cond (is_eq o) (Some target) None))
+      (tied_itself nat_cmp_total boot)
+
+  at_other : (n : List ℕ) (b : ℕ) (same : Bool) → bytes_eq name n ≡ same → (n ≡ name → b ≡ boot → ⊥)
+      → target_at new n b ≡ target_at old n b
+  at_other n b false e differ = ap (option_and_then (λ (ts : Targets). tree.get nat_cmp ts b)) (of_name n false e)
+  at_other n b true e differ =
+      let here : name ≡ n = (bytes_eq-Decides name n).0 e in
+      subst (λ (m : List ℕ). target_at new m b ≡ target_at old m b) here
+      (at_name b
+      ∙ ap (option_or (target_at old name b))
+      (other_boot boot b (nat_cmp boot b) (Some target) refl (differ (sym here)))
+      ∙ or_none (target_at old name b))
+
+  pub put_target : IsPut old new name boot target
+  put_target = record {
+    stays = λ t e. at_boot ∙ ap (λ (o : Option Target). option_or o (Some target)) e;
+    first = λ none. at_boot ∙ ap (λ (o : Option Target). option_or o (Some target)) none;
+    others = λ n b differ. at_other n b (bytes_eq name n) refl differ;
+  }
 
 module _ (old new : EarlierTargets) (boot : ℕ) (p : Part) (put : IsPut old new p.name boot p.target) where
   same_last : (limit : ℕ) (name : List ℕ) (best : Option Best)
@@ -167,45 +172,13 @@ pub all_parts : (r : Record) (limit : ℕ) (name : List ℕ) (best : Option Best
     ≡ later best (candidate (nat_lt r.activation limit) name r)
 all_parts r limit name best = parts_if r.activation name (nat_lt r.activation limit) r.parts best
 
--- ---- the last entry of a range
+-- ---- the last of the targets before a boot
 
 less_boot : (a b : ℕ) → a < b → nat_cmp a b ≡ Less
 less_boot a b low = grind (arith, nat_tests)
 
 boot_less : (a b : ℕ) → nat_cmp a b ≡ Less → a < b
 boot_less a b e = grind (arith, nat_tests)
-
-abbrev IsBelow : List ℕ → ℕ → List ℕ × ℕ → Type 0
-IsBelow name limit = IsInRange key_cmp (Included (name, 0)) (Excluded (name, limit))
-
-no_less : (b : ℕ) → is_gt (nat_cmp 0 b) ≡ false
-no_less b = grind (arith, nat_tests)
-
--- no key of the name comes before that of boot 0
-pub first_key : (name : List ℕ) (boot : ℕ) → is_gt (key_cmp (name, 0) (name, boot)) ≡ false
-first_key name boot = ap is_gt (one_name name 0 boot) ∙ no_less boot
-
--- keys of the name and of a boot before the limit are in the range
-is_below : (name : List ℕ) (limit boot : ℕ) → boot < limit → IsBelow name limit (name, boot)
-is_below name limit boot low =
-    (first_key name boot, one_name name boot limit ∙ less_boot boot limit low)
-
--- and no other ones
-key_if : (a b : List ℕ) (o p q r : Ordering) → names_cmp a b ≡ o → names_cmp b a ≡ p
-    → is_gt (ordering_then o q) ≡ false → ordering_then p r ≡ Less → (b ≡ a) × (r ≡ Less)
-key_if a b o Equal q r e f up down = (same_name b a f, down)
-key_if a b o Greater q r e f up down = absurd (cc)
-key_if a b Less Less q r e f up down =
-    let turned = nat_list_cmp_total.antisymm b a in absurd (cc)
-key_if a b Equal Less q r e f up down =
-    let turned = nat_list_cmp_total.antisymm b a in absurd (cc)
-key_if a b Greater Less q r e f up down = absurd (cc)
-
-below_is : (name : List ℕ) (limit : ℕ) (key : List ℕ × ℕ) → IsBelow name limit key
-    → (key.0 ≡ name) × (key.1 < limit)
-below_is name limit key within =
-    let k = key_if name key.0 _ _ (nat_cmp 0 key.1) (nat_cmp key.1 limit) refl refl within.0 within.1 in
-    (k.0, boot_less key.1 limit k.1)
 
 no_later : (a b : ℕ) → is_lt (nat_cmp a b) ≡ false → b ≤ a
 no_later a b e = grind (arith, nat_tests)
@@ -224,24 +197,33 @@ last_boot earlier limit name b t low there most (Some best) last = elim (cases_l
       cc (found)
 ]
 
-module _ (earlier : EarlierTargets) (limit : ℕ) (name : List ℕ) (es : List ((List ℕ × ℕ) × Target))
-    (range : IsRangeOf key_cmp (Included (name, 0)) (Excluded (name, limit)) earlier.targets es) where
-  -- nothing is in the range
+-- there are no targets of the name
+pub no_targets : (earlier : EarlierTargets) (limit : ℕ) (name : List ℕ) → targets_of earlier name ≡ None
+    → (best : Option Best) → IsLast earlier limit name best → Preinstalled ≡ target_of best
+no_targets earlier limit name none None last = refl
+no_targets earlier limit name none (Some best) last =
+    let nothing = ap (option_and_then (λ (ts : Targets). tree.get nat_cmp ts best.0)) none in
+    let some = last.1 in absurd (cc)
+
+module _ (earlier : EarlierTargets) (limit : ℕ) (name : List ℕ) (targets : Targets)
+    (are : targets_of earlier name ≡ Some targets) (es : List (ℕ × Target))
+    (range : IsRangeOf nat_cmp Unbounded (Excluded limit) targets es) where
+  at : (b : ℕ) → target_at earlier name b ≡ tree.get nat_cmp targets b
+  at b = ap (option_and_then (λ (ts : Targets). tree.get nat_cmp ts b)) are
+
+  -- none of them is before the limit
   pub last_none : es ≡ [] → (best : Option Best) → IsLast earlier limit name best → Preinstalled ≡ target_of best
   last_none none None last = refl
   last_none none (Some best) last =
-      let nothing = range.5 none (name, best.0) (is_below name limit best.0 last.0) in
-      let some = last.1 in absurd (cc)
+      let nothing = range.5 none best.0 (tt, less_boot best.0 limit last.0) in
+      let some = sym (at best.0) ∙ last.1 in absurd (cc)
 
   -- the last of the range is of the last boot
-  pub last_some : (e : (List ℕ × ℕ) × Target) (front : List ((List ℕ × ℕ) × Target)) → es ≡ front ++ e ∷ []
+  pub last_some : (e : ℕ × Target) (front : List (ℕ × Target)) → es ≡ front ++ e ∷ []
       → (best : Option Best) → IsLast earlier limit name best → e.1 ≡ target_of best
   last_some e front is best last =
       let entry = range.3 e front is in
-      let key = below_is name limit e.0 entry.0 in
-      let there : target_at earlier name e.0.1 ≡ Some e.1 =
-      ap (λ (n : List ℕ). target_at earlier n e.0.1) (sym key.0) ∙ entry.1 in
-      last_boot earlier limit name e.0.1 e.1 key.1 there (λ c low some.
-      let ordered = range.4 e front is (name, c) (is_below name limit c low) some in
-      no_later e.0.1 c (sym (ap is_lt (one_name name e.0.1 c))
-      ∙ ap (λ (n : List ℕ). is_lt (key_cmp (n, e.0.1) (name, c))) (sym key.0) ∙ ordered)) best last
+      last_boot earlier limit name e.0 e.1 (boot_less e.0 limit entry.0.1) (at e.0 ∙ entry.1)
+      (λ c low some.
+      no_later e.0 c (range.4 e front is c (tt, less_boot c limit low) (ap (λ (o : Option Target). is_some o)
+      (sym (at c)) ∙ some))) best last

@@ -1,18 +1,18 @@
 //! Which modules are kept.
-ghost use Rattle.std.specs.Prelude.{◌≡◌, ◌||◌, ℕ, List, IfOk, OnOk, fold};
+ghost use Rattle.std.specs.Prelude.{◌≡◌, ◌||◌, true, ℕ, List, IfOk, OnOk, fold};
 ghost use Rattle.std.specs.BTreeMap.{IsOrdered};
 ghost use Rattle.std.specs.Cmp.Lexicographic.{slice_cmp};
 ghost use Rattle.std.specs.Ordering.{nat_cmp};
 ghost use Rattle.apex_base.specs.declared.numbers.SessionId.{SessionId as Id};
 ghost use Rattle.apex_base.specs.declared.records.Record.{Record as Session};
 ghost use Rattle.apex_base.specs.Held.{is_module, is_target, kept};
-ghost use Rattle.package_store.specs.Earlier.{AreEarlier};
+ghost use Rattle.package_store.specs.Earlier.{AreEarlier, AreEnough, looks_back};
 ghost use Rattle.package_store.specs.Latest.{AreHeld};
 ghost use Rattle.package_store.specs.Keeping.{has_part, keep_held, keep_for};
 
-use crate::earlier::EarlierTargets;
+use crate::earlier::{EarlierTargets, looks_back};
 use crate::held::HeldByName;
-use apex_base::{Part, Record, RollbackState, SessionId, Target};
+use apex_base::{Part, Record, SessionId, Target};
 use std::alloc::{AllocError, Global};
 use std::collections::BTreeSet;
 
@@ -42,7 +42,7 @@ impl KeptParts {
         earlier: &EarlierTargets,
     ) -> Result<Self, AllocError>
         requires held { AreHeld records.now held.now }
-        requires earlier { AreEarlier records.now earlier.now }
+        requires earlier { AreEnough records.now earlier.now }
         ensures { IfOk result (λ parts. (session : Id) (part : ℕ)
             → has_part parts session part ≡ is_target (kept records.now) session part) }
     {
@@ -76,7 +76,8 @@ impl KeptParts {
 
     /// What a session keeps beside what its names hold.
     fn add_session(&mut self, earlier: &EarlierTargets, r: &Record) -> Result<(), AllocError>
-        ensures { OnOk result ((records : List Session) → AreEarlier records earlier.now → (session : Id) (part : ℕ)
+        ensures { OnOk result ((records : List Session)
+            → (looks_back r.now ≡ true → AreEarlier records earlier.now) → (session : Id) (part : ℕ)
             → has_part self.new session part
             ≡ fold (keep_for records r.now session part) (has_part self.old session part) r.now.parts) }
     {
@@ -87,14 +88,15 @@ impl KeptParts {
     }
 
     fn add_for(&mut self, earlier: &EarlierTargets, r: &Record, p: &Part) -> Result<(), AllocError>
-        ensures { OnOk result ((records : List Session) → AreEarlier records earlier.now → (session : Id) (part : ℕ)
+        ensures { OnOk result ((records : List Session)
+            → (looks_back r.now ≡ true → AreEarlier records earlier.now) → (session : Id) (part : ℕ)
             → has_part self.new session part
             ≡ keep_for records r.now session part (has_part self.old session part) p.now) }
     {
         if r.state.is_unfinished() {
             self.add(p.target)?;
         }
-        if r.state.is_undoable() || RollbackState::is_available(r.rollback) {
+        if looks_back(r) {
             self.add(earlier.before(r, &p.name))?;
         }
         Ok(())

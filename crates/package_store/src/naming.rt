@@ -6,7 +6,7 @@ ghost use Rattle.std.specs.FinMap as fin;
 ghost use Rattle.std.specs.Ordering.{nat_cmp};
 ghost use Rattle.apex_base.specs.declared.records.Record.{Record as Session};
 ghost use Rattle.apex_base.specs.Held.{target_of};
-ghost use Rattle.package_store.specs.Earlier.{AreEarlier};
+ghost use Rattle.package_store.specs.Earlier.{AreEarlier, AreEnough};
 ghost use Rattle.package_store.specs.Latest.{AreHeld};
 ghost use Rattle.package_store.specs.Named.{note_active, note_held, note_backup, note_backups};
 ghost use Rattle.package_store.specs.Settled.{HasPart, HaveParts, settled};
@@ -28,7 +28,7 @@ pub(crate) fn name_changes(
 ) -> Result<Changes, AllocError>
     requires parts { HaveParts records.now }
     requires held { AreHeld records.now held.now }
-    requires earlier { AreEarlier records.now earlier.now }
+    requires earlier { AreEnough records.now earlier.now }
     ensures { IfOk result (λ changes. (key : List ℕ)
         → fin.get changes key ≡ change_to None (settled records.now key None)) }
 {

@@ -1,7 +1,9 @@
-use Rattle.std.proofs.Common.{◌≡◌, List, fold, take, Option, ap, sym, subst, ◌∙◌}
+use Rattle.std.proofs.Common.{◌≡◌, ◌||◌, Bool, true, List, fold, take, Option, ap, sym, subst, ◌∙◌}
 use Rattle.std.proofs.lemmas.List.{take_all}
+use Rattle.std.proofs.lemmas.List.Elements.{All-from_recursion}
 use Rattle.apex_base.specs.declared.records.Record.{Record}
-use Rattle.apex_base.specs.Held.{target_of}
+use Rattle.apex_base.specs.Held.{is_available, target_of}
+use Rattle.package_store.specs.Earlier.{AreEarlier, looks_back}
 use Rattle.package_store.specs.Latest.{Best}
 use Rattle.package_store.specs.Settled.{HasPart}
 use Rattle.package_store.specs.Named.{note_held, if_undoable}
@@ -16,7 +18,15 @@ active_changes-requires c = λ name.
     (held_part c.args.records.now name c.requires.parts)
 
 pub add_backups-requires : goal.add_backups-requires
-add_backups-requires c = (c.args.records.now, c.requires.parts, c.requires.earlier)
+add_backups-requires c =
+    let records = c.args.records.now in
+    let i = c.loop-r.r-index in
+    let r : Record = c.r-item.result in
+    let Asked : Record → Type 0 = λ (r : Record). looks_back r ≡ true → AreEarlier records c.args.earlier.now in
+    let asked : Asked r =
+    subst Asked (sym c.r-item.is) (All-from_recursion Asked records c.requires.earlier i r c.loop-r-test.true) in
+    let back : looks_back r ≡ true = ap (λ (b : Bool). b || is_available r.rollback) (sym c.if-is_undoable.ensures) in
+    (records, c.requires.parts, asked back)
 
 pub returns : goal.returns
 returns c =

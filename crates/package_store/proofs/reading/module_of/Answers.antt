@@ -1,4 +1,4 @@
-use Rattle.std.proofs.Common.{◌≡◌, [], ◌∷◌, ℕ, List, None, Some, ap, sym, subst, ◌∙◌, refl}
+use Rattle.std.proofs.Common.{◌≡◌, [], ◌∷◌, None, Some, ap, sym, subst, ◌∙◌, refl}
 use Rattle.apex_base.specs.RowSums.{module_at}
 use Rattle.row_map.specs.Rows.{rows_of, shown}
 use Rattle.package_store.specs.Placed.{path_in}
