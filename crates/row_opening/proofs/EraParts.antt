@@ -1,5 +1,5 @@
 -- What names had before boots, put together value by value. Callers want `held_value`, `put_value`, `first_at`,
--- `name_adds`, `parts_or`, `all_or`, `step_or` and `are_eras`.
+-- `name_adds`, `parts_or`, `all_or`, `adds_none`, `step_or` and `are_eras`.
 use Rattle.std.proofs.Common.{◌≡◌, ℕ, ◌<◌, ◌^◌, Bool, true, false, cond, eqb, ◌&&◌, ◌||◌, List, [], ◌∷◌, ◌++◌, length}
 use Rattle.std.proofs.Common.{Option, Some, None, sym, ap, ◌∙◌, refl}
 use Rattle.std.specs.Int.{w32, to_be_bytes}
@@ -27,7 +27,7 @@ use Rattle.row_map.specs.Room.{same_key}
 use Rattle.row_opening.specs.KeptRows.{key_under, kept_text, counting, first_kept, is_boot, era_key, AreEras}
 use Rattle.row_opening.specs.EraSteps.{Adds, kept_of_name, kept_of_parts, kept_of_session, kept_of_all}
 use Rattle.row_opening.specs.RowFronts.{rows_after}
-use Rattle.row_opening.proofs.RowsWalked.{same_after, find_after}
+use Rattle.row_opening.proofs.RowsWalked.{same_after, find_after, none_there}
 
 abbrev Rows : Type 0
 Rows = List (List ℕ × List ℕ)
@@ -276,6 +276,24 @@ module _ (m : RowMap) (tag : ℕ) where
         → option_or (kept_of_session m boots tag r boot name key) (kept_of_all m boots tag rs boot name key)
         ≡ kept_of_all m boots tag (r ∷ rs) boot name key
     all_or r rs boot name key = all_if (eqb r.activation boot) r rs boot name key refl
+
+-- where no row has the tag, nothing is kept under it
+module _ (m : RowMap) (tag : ℕ) (none : rows_after (tag ∷ []) (fin.entries m) ≡ []) where
+  none_kept : (under : List ℕ) (rs : List Record) → first_kept m tag under rs ≡ None
+  none_kept under [] = refl
+  none_kept under (r ∷ rs) =
+      ap (λ (o : Value). option_or o (first_kept m tag under rs))
+      (none_there (tag ∷ []) m none (id_text r.id ++ under)) ∙ none_kept under rs
+
+  pub adds_none : (boots : ℕ) (sessions : List Record) (values : RowMap)
+      → Adds values values (kept_of_all m boots tag sessions)
+  adds_none boots sessions values boot name key low =
+      let known = is_boot boots boot && is_name key in
+      let kept : kept_of_all m boots tag sessions boot name key ≡ None =
+      ap (λ (o : Value). cond known o None) (none_kept (short_text name key) (counting sessions boot name))
+      ∙ sym (no_cond known) in
+      sym (or_none (fin.get values (era_key boot name key)))
+      ∙ ap (option_or (fin.get values (era_key boot name key))) (sym kept)
 
 or_cond : (b : Bool) (o p : Value) → option_or (cond b o None) (cond b p None) ≡ cond b (option_or o p) None
 or_cond true o p = refl

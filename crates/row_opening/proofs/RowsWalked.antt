@@ -1,10 +1,10 @@
 -- The rows whose keys begin with a front, from the first key that may begin so on. Callers want `starts`, `takes`,
--- `stops`, `ends`, `find_after`, `after_get` and `in_after`.
+-- `stops`, `ends`, `first_tells`, `find_after`, `none_there`, `after_get` and `in_after`.
 use Rattle.std.proofs.Common.{◌≡◌, ◌≢◌, ℕ, Bool, true, false, cond, eqb, List, [], ◌∷◌, ◌++◌, map, Option, Some, None}
 use Rattle.std.proofs.Common.{sym, ap, subst, ◌∙◌, refl, inl, inr}
 use Rattle.std.specs.Borrow.{Bor}
 use Rattle.std.specs.Prelude.{MatchOption}
-use Rattle.std.specs.Option.{option_map}
+use Rattle.std.specs.Option.{option_map, is_some}
 use Rattle.std.specs.BTreeMap.Range.{entries_between}
 use Rattle.std.specs.Cmp.Lexicographic.{slice_cmp}
 use Rattle.std.specs.FinMap as fin
@@ -160,6 +160,16 @@ module _ (front : List ℕ) where
           ]) in
           sym (append-nil found) ∙ ap (λ rows. found ++ rows) (sym no) ∙ l.joined
 
+  -- whether there is such a row is told by the first that is left
+  pub first_tells : (all : Rows) (e : List ℕ × List ℕ) (rest : Rows) (o : Option (Bor (List ℕ)))
+      → Left front all [] (e ∷ rest) → option_map (λ key. key.now) o ≡ rest_after front e.0
+      → (is_some o ≡ true → rows_after front all ≢ []) × (is_some o ≡ false → rows_after front all ≡ [])
+  first_tells all e rest None l is = (λ h. absurd (cc h), λ h. sym (stops all [] e rest l (sym is)))
+  first_tells all e rest (Some key) l is =
+      let first : rows_after front all ≡ (key.now, e.1) ∷ rows_after front rest =
+      sym l.joined ∙ ap (λ (o : Option (List ℕ)). with_row o e.1 (rows_after front rest)) (sym is) in
+      (λ h none. absurd (cc (first, none)), λ h. absurd (cc h))
+
 pub map_more : {X Y : Type 0} (f : X → Y) (xs : List X) (x : X) → map f (xs ++ x ∷ []) ≡ map f xs ++ f x ∷ []
 map_more f [] x = refl
 map_more f (y ∷ xs) x = ap (λ ys. f y ∷ ys) (map_more f xs x)
@@ -196,6 +206,10 @@ module _ (front : List ℕ) where
   pub find_after : (m : RowMap) (q : List ℕ)
       → fin.find (slice_cmp nat_cmp) q (rows_after front (fin.entries m)) ≡ fin.get m (front ++ q)
   find_after m q = find_rows (fin.entries m) q ∙ sym (get-entries m (front ++ q))
+
+  -- where none of them is there, no key begins so
+  pub none_there : (m : RowMap) → rows_after front (fin.entries m) ≡ [] → (q : List ℕ) → fin.get m (front ++ q) ≡ None
+  none_there m none q = sym (find_after m q) ∙ ap (fin.find (slice_cmp nat_cmp) q) none
 
   in_if : (e row : List ℕ × List ℕ) (es : Rows) (o : Option (List ℕ)) → rest_after front e.0 ≡ o
       → In row (with_row o e.1 (rows_after front es)) → (In row (rows_after front es) → In (front ++ row.0, row.1) es)

@@ -8,7 +8,7 @@ ghost use Rattle.row_opening.specs.KeptRows.{is_boot, AreEras, HaveBoots};
 ghost use Rattle.row_opening.specs.EraSteps.{Adds, kept_of_name, kept_of_parts};
 ghost use Rattle.row_opening.specs.EraSteps.{kept_of_session, kept_of_all};
 
-use crate::fronts::{era_front, joined, kept_front, rows_after};
+use crate::fronts::{era_front, has_rows, joined, kept_front, rows_after};
 use apex_base::{Bytes, Name, Record};
 use row_map::Rows;
 use std::alloc::{AllocError, Global};
@@ -22,7 +22,8 @@ struct Source<'a> {
 }
 
 /// What names had before boots, each value under the boot, the name and the key. It reads each row of what sessions
-/// keep once for each part of its session that has the row's name, and copies each value that counts.
+/// keep once for each part of its session that has the row's name, and copies each value that counts. A tag
+/// that no row has takes one look-up.
 pub(crate) fn era_values(
     alloc: Global,
     rows: &Rows,
@@ -32,6 +33,7 @@ pub(crate) fn era_values(
     ensures eras { IfOk result (AreEras rows.now sessions.now boots) }
     ensures boots { OnOk result (HaveBoots sessions.now) }
 {
+    known_boots(sessions);
     let mut values = Rows::new(alloc);
     let snapshots = Source {
         rows,
@@ -48,15 +50,44 @@ pub(crate) fn era_values(
     Ok(values)
 }
 
+/// States for proofs that the boots that activated these sessions are within the range of boots. It changes nothing.
+fn known_boots(sessions: &[Record])
+    ensures { HaveBoots sessions.now }
+{
+    for r in sessions {
+        known_boot(r.activation);
+    }
+}
+
+fn known_boot(boot: u32)
+    ensures { boot < 2 ^ 32 }
+{}
+
 /// Adds what sessions keep under the tag, where there was no value before.
+#[tactic(auto, using(crate::proofs::EraParts::adds_none))]
 fn add_all(
     alloc: Global,
     source: &Source,
     sessions: &[Record],
     values: &mut Rows,
 ) -> Result<(), AllocError>
-    ensures adds { OnOk result (Adds values.old values.new (kept_of_all source.now.rows.now source.now.boots source.now.tag sessions.now)) }
-    ensures boots { OnOk result (HaveBoots sessions.now) }
+    ensures { OnOk result (Adds values.old values.new (kept_of_all source.now.rows.now source.now.boots source.now.tag sessions.now)) }
+{
+    if has_rows(alloc, source.rows, &[source.tag])? {
+        add_sessions(alloc, source, sessions, values)
+    } else {
+        Ok(())
+    }
+}
+
+/// Adds what each session keeps.
+fn add_sessions(
+    alloc: Global,
+    source: &Source,
+    sessions: &[Record],
+    values: &mut Rows,
+) -> Result<(), AllocError>
+    ensures { OnOk result (Adds values.old values.new (kept_of_all source.now.rows.now source.now.boots source.now.tag sessions.now)) }
 {
     for r in sessions {
         add_session(alloc, source, r, values)?;
@@ -71,8 +102,7 @@ fn add_session(
     r: &Record,
     values: &mut Rows,
 ) -> Result<(), AllocError>
-    ensures adds { OnOk result (Adds values.old values.new (kept_of_session source.now.rows.now source.now.boots source.now.tag r.now)) }
-    ensures boot { r.now.activation < 2 ^ 32 }
+    ensures { OnOk result (Adds values.old values.new (kept_of_session source.now.rows.now source.now.boots source.now.tag r.now)) }
 {
     if is_boot(source.boots, r.activation) {
         add_names(alloc, source, r, values)

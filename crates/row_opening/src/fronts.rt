@@ -1,5 +1,5 @@
 //! Rows whose keys begin alike.
-ghost use Rattle.std.specs.Prelude.{◌≡◌, ◌++◌, [], map, IfOk, OnOk, option_map};
+ghost use Rattle.std.specs.Prelude.{◌≡◌, ◌≢◌, ◌++◌, [], true, false, map, IfOk, OnOk, option_map};
 ghost use Rattle.std.specs.FinMap as fin;
 ghost use Rattle.apex_base.specs.Reading.{four_text, short_text};
 ghost use Rattle.row_opening.specs.KeptRows.{kept_text, era_key};
@@ -35,6 +35,18 @@ pub(crate) fn rows_after<'a>(
         found.push(RowAfter { key, value })?;
     }
     Ok(found)
+}
+
+/// Whether there is a row whose key begins with a front. It reads one row at most.
+pub(crate) fn has_rows(alloc: Global, rows: &Rows, front: &[u8]) -> Result<bool, AllocError>
+    ensures some { IfOk result (λ has. has ≡ true → rows_after front.now (fin.entries rows.now) ≢ []) }
+    ensures none { IfOk result (λ has. has ≡ false → rows_after front.now (fin.entries rows.now) ≡ []) }
+{
+    let start = front.to_vec(alloc)?;
+    match rows.by_key().range(&start..).next() {
+        Some((key, _)) => Ok(rest_after(key.as_slice(), front).is_some()),
+        None => Ok(false),
+    }
 }
 
 /// What follows a front in a key that begins with it.
