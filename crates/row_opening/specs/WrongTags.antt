@@ -4,6 +4,7 @@ use Rattle.apex_base.specs.declared.numbers.Scale.{Scale}
 use Rattle.apex_base.specs.declared.why.Why.{Why}
 use Rattle.apex_base.specs.declared.why.Why.TheVariants.{Fault, NoMemory}
 use Rattle.apex_base.specs.Keys.{RowMap}
+use Rattle.row_opening.specs.declared.kept.KeptTags.{KeptTags}
 use Rattle.row_opening.specs.declared.opened.BadRows.{BadRows}
 use Rattle.row_opening.specs.declared.settled.SettledTags.{SettledTags}
 use Rattle.row_opening.specs.BadRows.{AgreesAt, IsLeastDifference}
@@ -28,6 +29,11 @@ pub record AreSettled (m : RowMap) (tags : SettledTags) : Type 0 where
   pub active : Tells m 3 tags.active
   pub backup : Tells m 4 tags.backup
   pub files : Tells m 5 tags.files
+
+-- what is said of the rows of what sessions keep
+pub record AreKeptTags (m : RowMap) (tags : KeptTags) : Type 0 where
+  pub snapshots : Tells m 7 tags.snapshots
+  pub pre_restores : Tells m 8 tags.pre_restores
 
 -- what a row's key begins with, if that is above the tags of keys
 abbrev pub strange_in : List ℕ → Option ℕ

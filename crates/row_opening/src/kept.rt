@@ -2,16 +2,15 @@
 ghost use Rattle.std.specs.Prelude.{◌≡◌, ◌++◌, ℕ, List, Some, true, false, map, IfOk, option_map};
 ghost use Rattle.std.specs.FinMap as fin;
 ghost use Rattle.std.specs.List.{list_all};
-ghost use Rattle.apex_base.specs.declared.numbers.Scale.{Scale};
 ghost use Rattle.apex_base.specs.declared.records.Part.{Part as PartOf};
 ghost use Rattle.apex_base.specs.Sessions.{Ascend};
 ghost use Rattle.apex_world.specs.Opened.{opened_boots, opened_sessions};
-ghost use Rattle.row_opening.specs.BadRows.{AgreesAt, DiffersAt};
-ghost use Rattle.row_opening.specs.KeptRows.{IsKeptTag};
+ghost use Rattle.row_opening.specs.KeptRows.{IsKeptTag, AreEras, HaveBoots};
 ghost use Rattle.row_opening.specs.RightKept.{FitKeys, place_in, is_kept, is_right_row, are_right_rows, WrongRow};
 ghost use Rattle.row_opening.specs.RightKept.{has_name_kept, has_kept, have_kept};
 ghost use Rattle.row_opening.specs.RightRows.{is_value};
 ghost use Rattle.row_opening.specs.RowBytes.{FitBytes};
+ghost use Rattle.row_opening.specs.SettledTags.{Tells};
 
 use crate::eras::era_values;
 use crate::fronts::{RowAfter, era_front, era_key, joined, kept_front, rows_after};
@@ -30,34 +29,61 @@ struct Opening<'a> {
     tag: u8,
 }
 
-/// Whether the rows of tag 7, or those of tag 8, are those of the world that the rows open to. For n rows it takes
-/// n log n steps: it collects what names had before boots, looks up each row of the tag among these values, and then
-/// each value that a session keeps among the rows.
-pub fn is_right_kept(
+/// Which of the rows of what sessions keep are those of the world that all rows open to.
+#[derive(Clone, Copy)]
+pub struct KeptTags {
+    /// Tag 7: snapshots.
+    pub snapshots: bool,
+    /// Tag 8: values before a rollback.
+    pub pre_restores: bool,
+}
+
+/// Judges the rows of what sessions keep. For n rows it takes n log n steps: it collects what names had before boots,
+/// looks up each row of the two tags among these values, and then each value that a session keeps among the rows.
+pub fn kept_tags(
     alloc: Global,
-    tag: u8,
     rows: &Rows,
     sessions: &[Record],
     boots: u32,
-) -> Result<bool, AllocError>
-    requires tag { IsKeptTag tag }
+) -> Result<KeptTags, AllocError>
     // The sessions and the number of boots are those that the rows open to.
     requires sessions { sessions.now ≡ opened_sessions rows.now }
     requires boots { boots ≡ (opened_boots rows.now).0 }
-    ensures right { IfOk result (λ right. right ≡ true → (scale : Scale) → AgreesAt rows.now scale tag) }
-    ensures wrong { IfOk result (λ right. right ≡ false → (scale : Scale) → DiffersAt rows.now scale tag) }
+    ensures snapshots { IfOk result (λ tags. Tells rows.now 7 tags.snapshots) }
+    ensures pre_restores { IfOk result (λ tags. Tells rows.now 8 tags.pre_restores) }
 {
     let values = era_values(alloc, rows, sessions, boots)?;
-    let opening = Opening {
+    let snapshots = Opening {
         rows,
         sessions,
         values: &values,
-        tag,
+        tag: 7,
     };
-    if !are_right_rows(alloc, &opening)? {
+    let pre_restores = Opening {
+        rows,
+        sessions,
+        values: &values,
+        tag: 8,
+    };
+    Ok(KeptTags {
+        snapshots: is_right_kept(alloc, &snapshots)?,
+        pre_restores: is_right_kept(alloc, &pre_restores)?,
+    })
+}
+
+/// Whether the rows of the tag are those of the world that the rows open to.
+fn is_right_kept(alloc: Global, opening: &Opening) -> Result<bool, AllocError>
+    requires tag { IsKeptTag opening.now.tag }
+    requires sessions { opening.now.sessions.now ≡ opened_sessions opening.now.rows.now }
+    requires eras { AreEras opening.now.rows.now opening.now.sessions.now (opened_boots opening.now.rows.now).0
+        opening.now.values.now }
+    requires boots { HaveBoots opening.now.sessions.now }
+    ensures { IfOk result (Tells opening.now.rows.now opening.now.tag) }
+{
+    if !are_right_rows(alloc, opening)? {
         return Ok(false);
     }
-    have_kept(alloc, &opening)
+    have_kept(alloc, opening)
 }
 
 /// Whether each row of the tag is one that its session keeps.

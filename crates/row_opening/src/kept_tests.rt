@@ -40,14 +40,12 @@ fn store(alloc: Global, key: &[u8]) -> Result<Rows, AllocError> {
     Ok(rows)
 }
 
-/// Whether the rows of tag 7 are right in such a store, and those of tag 8.
-fn are_right(alloc: Global, key: &[u8]) -> Result<(bool, bool), AllocError> {
+/// Which rows are right in such a store.
+fn are_right(alloc: Global, key: &[u8]) -> Result<KeptTags, AllocError> {
     let rows = store(alloc, key)?;
     let sessions = opened_sessions(alloc, &rows)?;
     let boots = opened_boots(alloc, &rows)?;
-    let snapshots = is_right_kept(alloc, 7, &rows, sessions.as_slice(), boots.count)?;
-    let pre_restores = is_right_kept(alloc, 8, &rows, sessions.as_slice(), boots.count)?;
-    Ok((snapshots, pre_restores))
+    kept_tags(alloc, &rows, sessions.as_slice(), boots.count)
 }
 
 #[test]
@@ -55,7 +53,7 @@ fn a_snapshot_of_its_session_is_right(rt: HostRuntime) -> Result<(), Fail> {
     let right = are_right(rt.alloc(), &SNAPSHOT)
         .ok()
         .ok_or("there is memory")?;
-    assert!(rt; right.0 && right.1);
+    assert!(rt; right.snapshots && right.pre_restores);
     Ok(())
 }
 
@@ -65,7 +63,7 @@ fn a_value_that_no_session_keeps_is_wrong(rt: HostRuntime) -> Result<(), Fail> {
     let right = are_right(rt.alloc(), &PRE_RESTORE)
         .ok()
         .ok_or("there is memory")?;
-    assert!(rt; !right.0 && !right.1);
+    assert!(rt; !right.snapshots && !right.pre_restores);
     Ok(())
 }
 
@@ -74,7 +72,7 @@ fn a_snapshot_of_no_session_is_wrong(rt: HostRuntime) -> Result<(), Fail> {
     let right = are_right(rt.alloc(), &OF_NO_SESSION)
         .ok()
         .ok_or("there is memory")?;
-    assert!(rt; !right.0 && right.1);
+    assert!(rt; !right.snapshots && right.pre_restores);
     Ok(())
 }
 
@@ -85,7 +83,8 @@ fn are_right_beside(alloc: Global, value: &[u8]) -> Result<bool, AllocError> {
     put(alloc, &mut rows, &OF_NO_SESSION, value)?;
     let sessions = opened_sessions(alloc, &rows)?;
     let boots = opened_boots(alloc, &rows)?;
-    is_right_kept(alloc, 7, &rows, sessions.as_slice(), boots.count)
+    let right = kept_tags(alloc, &rows, sessions.as_slice(), boots.count)?;
+    Ok(right.snapshots)
 }
 
 /// The value of the first session counts: 118.

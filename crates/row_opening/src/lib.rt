@@ -22,7 +22,7 @@ mod tests;
 
 pub use alone::is_right_alone;
 pub use boots::{Boots, opened_boots};
-pub use kept::is_right_kept;
+pub use kept::{KeptTags, kept_tags};
 pub use kept_laws::{kept_rows_are_those_of_eras, kept_rows_are_what_sessions_keep};
 pub use laws::{files_are_those_of_kept_modules, names_have_what_sessions_give};
 pub use opened::{BadRows, OpenedRows, open_rows};

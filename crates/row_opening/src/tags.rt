@@ -3,10 +3,10 @@ ghost use Rattle.std.specs.Prelude.{◌≡◌, IfOk};
 ghost use Rattle.std.specs.FinMap as fin;
 ghost use Rattle.apex_world.specs.Opened.{opened_boots, opened_sessions};
 ghost use Rattle.row_opening.specs.SettledTags.{Tells};
-ghost use Rattle.row_opening.specs.WrongTags.{IsWrongTag, AreSettled, lesser, strange_in, strange_tag};
+ghost use Rattle.row_opening.specs.WrongTags.{IsWrongTag, AreSettled, AreKeptTags, lesser, strange_in, strange_tag};
 
 use crate::alone::is_right_alone;
-use crate::kept::is_right_kept;
+use crate::kept::{KeptTags, kept_tags};
 use crate::opened::OpenedRows;
 use crate::settled::{SettledTags, settled_tags};
 use row_map::Rows;
@@ -25,9 +25,11 @@ pub(crate) fn wrong_tag(
     requires boots { opened.now.boots.count ≡ (opened_boots rows.now).0 }
     ensures { IfOk result (IsWrongTag rows.now) }
 {
-    let settled = settled_tags(alloc, rows, opened.sessions.as_slice())?;
+    let sessions = opened.sessions.as_slice();
+    let settled = settled_tags(alloc, rows, sessions)?;
+    let kept = kept_tags(alloc, rows, sessions, opened.boots.count)?;
     for tag in 0..TAGS {
-        if !is_right(alloc, tag, rows, opened, settled)? {
+        if !is_right(alloc, tag, rows, settled, kept)? {
             return Ok(Some(tag));
         }
     }
@@ -39,20 +41,19 @@ fn is_right(
     alloc: Global,
     tag: u8,
     rows: &Rows,
-    opened: &OpenedRows,
     settled: SettledTags,
+    kept: KeptTags,
 ) -> Result<bool, AllocError>
-    requires sessions { opened.now.sessions.items ≡ opened_sessions rows.now }
-    requires boots { opened.now.boots.count ≡ (opened_boots rows.now).0 }
     requires settled { AreSettled rows.now settled }
+    requires kept { AreKeptTags rows.now kept }
     ensures { IfOk result (Tells rows.now tag) }
 {
-    let sessions = opened.sessions.as_slice();
     match tag {
         3 => Ok(settled.active),
         4 => Ok(settled.backup),
         5 => Ok(settled.files),
-        7 | 8 => is_right_kept(alloc, tag, rows, sessions, opened.boots.count),
+        7 => Ok(kept.snapshots),
+        8 => Ok(kept.pre_restores),
         _ => is_right_alone(alloc, tag, rows),
     }
 }
