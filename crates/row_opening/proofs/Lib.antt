@@ -20,6 +20,7 @@ mod RightKeptRows
 mod RightNames
 mod RightRecords
 mod RowsWalked
+mod SessionCounts
 mod SessionLists
 mod SessionSteps
 pub mod SettledChanges

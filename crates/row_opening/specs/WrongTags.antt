@@ -4,9 +4,8 @@ use Rattle.apex_base.specs.declared.numbers.Scale.{Scale}
 use Rattle.apex_base.specs.declared.why.Why.{Why}
 use Rattle.apex_base.specs.declared.why.Why.TheVariants.{Fault, NoMemory}
 use Rattle.apex_base.specs.Keys.{RowMap}
-use Rattle.row_opening.specs.declared.kept.KeptTags.{KeptTags}
 use Rattle.row_opening.specs.declared.opened.BadRows.{BadRows}
-use Rattle.row_opening.specs.declared.settled.SettledTags.{SettledTags}
+use Rattle.row_opening.specs.declared.tags.Judged.{Judged}
 use Rattle.row_opening.specs.BadRows.{AgreesAt, IsLeastDifference}
 use Rattle.row_opening.specs.SettledTags.{Tells}
 
@@ -24,16 +23,14 @@ abbrev pub AreBad : RowMap → Why BadRows → Type 0
 AreBad m (Fault bad) = (scale : Scale) → IsLeastDifference m scale bad.tag
 AreBad m NoMemory = Unit {0}
 
--- what is said of the rows of names and of files
-pub record AreSettled (m : RowMap) (tags : SettledTags) : Type 0 where
-  pub active : Tells m 3 tags.active
-  pub backup : Tells m 4 tags.backup
-  pub files : Tells m 5 tags.files
-
--- what is said of the rows of what sessions keep
-pub record AreKeptTags (m : RowMap) (tags : KeptTags) : Type 0 where
-  pub snapshots : Tells m 7 tags.snapshots
-  pub pre_restores : Tells m 8 tags.pre_restores
+-- what is said of the tags whose rows depend on the sessions
+pub record AreJudged (m : RowMap) (judged : Judged) : Type 0 where
+  pub sessions : Tells m 2 judged.sessions
+  pub active : Tells m 3 judged.settled.active
+  pub backup : Tells m 4 judged.settled.backup
+  pub files : Tells m 5 judged.settled.files
+  pub snapshots : Tells m 7 judged.kept.snapshots
+  pub pre_restores : Tells m 8 judged.kept.pre_restores
 
 -- what a row's key begins with, if that is above the tags of keys
 abbrev pub strange_in : List ℕ → Option ℕ

@@ -6,8 +6,9 @@ ghost use Rattle.apex_base.specs.Held.{is_module};
 ghost use Rattle.apex_base.specs.Sessions.{Ascend};
 ghost use Rattle.row_opening.specs.FileKeys.{is_file_key, is_file_at, are_files};
 ghost use Rattle.row_opening.specs.RightRows.{has_own};
-ghost use Rattle.row_opening.specs.RowBytes.{FitRow, FitRows};
+ghost use Rattle.row_opening.specs.RowBytes.{FitRows};
 
+use crate::rows::known_bytes;
 use apex_base::{FilePath, Part, Record, SessionId, is_module, session_of};
 use row_map::Rows;
 
@@ -27,11 +28,6 @@ pub(crate) fn are_files(rows: &Rows, sessions: &[Record]) -> bool
     }
     right
 }
-
-/// States for proofs that a row's key and value are bytes. It does nothing.
-fn known_bytes(key: &[u8], value: &[u8])
-    ensures { FitRow (key.now, value.now) }
-{}
 
 /// Whether a row is of another tag, or has such a key.
 fn is_file_at(key: &[u8], sessions: &[Record]) -> bool

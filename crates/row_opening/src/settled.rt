@@ -1,9 +1,10 @@
 //! Rows of names and of files, which depend on the sessions.
 ghost use Rattle.std.specs.Prelude.{◌≡◌, ◌&&◌, not, IfOk};
 ghost use Rattle.apex_world.specs.Opened.{opened_sessions};
-ghost use Rattle.row_opening.specs.SettledTags.{Tells, has_tag, changes_tag};
+ghost use Rattle.row_opening.specs.SettledTags.{Tells, changes_tag};
 
 use crate::files::are_files;
+use crate::rows::has_tag;
 use apex_base::Record;
 use package_store::{rows_are_those_shown, settle};
 use row_codec::Row;
@@ -56,13 +57,4 @@ fn changes_tag(changes: &[Row], tag: u8) -> bool
     changes
         .iter()
         .any(|change| has_tag(change.key.as_slice(), tag))
-}
-
-fn has_tag(key: &[u8], tag: u8) -> bool
-    ensures { result ≡ has_tag tag key.now }
-{
-    match key {
-        [first, ..] => *first == tag,
-        [] => false,
-    }
 }

@@ -3,17 +3,29 @@ ghost use Rattle.std.specs.Prelude.{◌≡◌, IfOk};
 ghost use Rattle.std.specs.FinMap as fin;
 ghost use Rattle.apex_world.specs.Opened.{opened_boots, opened_sessions};
 ghost use Rattle.row_opening.specs.SettledTags.{Tells};
-ghost use Rattle.row_opening.specs.WrongTags.{IsWrongTag, AreSettled, AreKeptTags, lesser, strange_in, strange_tag};
+ghost use Rattle.row_opening.specs.WrongTags.{IsWrongTag, AreJudged, lesser, strange_in, strange_tag};
 
 use crate::alone::is_right_alone;
 use crate::kept::{KeptTags, kept_tags};
 use crate::opened::OpenedRows;
+use crate::sessions::are_right_sessions;
 use crate::settled::{SettledTags, settled_tags};
 use row_map::Rows;
 use std::alloc::{AllocError, Global};
 
 /// All tags of keys are below this number.
 const TAGS: u8 = 10;
+
+/// Whether rows are those of the world that all rows open to, for the tags whose rows depend on the sessions.
+#[derive(Clone, Copy)]
+struct Judged {
+    /// Tag 2.
+    sessions: bool,
+    /// Tags 3, 4 and 5.
+    settled: SettledTags,
+    /// Tags 7 and 8.
+    kept: KeptTags,
+}
 
 /// The least tag whose rows aren't those of the world that the rows open to, if there is one.
 pub(crate) fn wrong_tag(
@@ -26,10 +38,13 @@ pub(crate) fn wrong_tag(
     ensures { IfOk result (IsWrongTag rows.now) }
 {
     let sessions = opened.sessions.as_slice();
-    let settled = settled_tags(alloc, rows, sessions)?;
-    let kept = kept_tags(alloc, rows, sessions, opened.boots.count)?;
+    let judged = Judged {
+        sessions: are_right_sessions(rows, sessions),
+        settled: settled_tags(alloc, rows, sessions)?,
+        kept: kept_tags(alloc, rows, sessions, opened.boots.count)?,
+    };
     for tag in 0..TAGS {
-        if !is_right(alloc, tag, rows, settled, kept)? {
+        if !is_right(alloc, tag, rows, judged)? {
             return Ok(Some(tag));
         }
     }
@@ -37,23 +52,17 @@ pub(crate) fn wrong_tag(
 }
 
 /// Whether the rows of a tag are those of the world that the rows open to.
-fn is_right(
-    alloc: Global,
-    tag: u8,
-    rows: &Rows,
-    settled: SettledTags,
-    kept: KeptTags,
-) -> Result<bool, AllocError>
-    requires settled { AreSettled rows.now settled }
-    requires kept { AreKeptTags rows.now kept }
+fn is_right(alloc: Global, tag: u8, rows: &Rows, judged: Judged) -> Result<bool, AllocError>
+    requires { AreJudged rows.now judged }
     ensures { IfOk result (Tells rows.now tag) }
 {
     match tag {
-        3 => Ok(settled.active),
-        4 => Ok(settled.backup),
-        5 => Ok(settled.files),
-        7 => Ok(kept.snapshots),
-        8 => Ok(kept.pre_restores),
+        2 => Ok(judged.sessions),
+        3 => Ok(judged.settled.active),
+        4 => Ok(judged.settled.backup),
+        5 => Ok(judged.settled.files),
+        7 => Ok(judged.kept.snapshots),
+        8 => Ok(judged.kept.pre_restores),
         _ => is_right_alone(alloc, tag, rows),
     }
 }
