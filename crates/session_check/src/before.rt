@@ -1,10 +1,10 @@
 //! What names held before a session was activated, and which session was activated last.
 ghost use Rattle.std.specs.Prelude.{◌≡◌, not, find};
-ghost use Rattle.std.specs.List.{list_all};
+ghost use Rattle.std.specs.List.{list_all, list_any};
 ghost use Rattle.std.specs.List.Sorted.{IsSorted};
 ghost use Rattle.std.specs.Option.{option_copied};
 ghost use Rattle.std.specs.Str.{bytes_eq};
-ghost use Rattle.apex_base.specs.Held.{before};
+ghost use Rattle.apex_base.specs.Held.{before, is_undoable};
 ghost use Rattle.session_check.specs.declared.marks.Which.TheVariants.{Succeeded};
 ghost use Rattle.session_check.specs.Before.{AreDated, target_of_part, target_in, is_above};
 ghost use Rattle.session_check.specs.Marks.{mark_cmp, has_later, AreMarks};
@@ -47,6 +47,13 @@ fn part_of<'a>(parts: &'a [Part], name: &Name) -> Option<&'a Part>
     ensures { option_copied result ≡ find (λ p. bytes_eq p.name name.now) parts.now }
 {
     parts.iter().find(|p| p.name.is_same(name))
+}
+
+/// Whether a session can be undone.
+pub(crate) fn any_undoable(sessions: &[Record]) -> bool
+    ensures { result ≡ list_any (λ r. is_undoable r.state) sessions.now }
+{
+    sessions.iter().any(|r| r.state.is_undoable())
 }
 
 /// Whether each session that can be undone was activated last of those that stand for its names, by their marks.

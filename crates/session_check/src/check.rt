@@ -6,7 +6,7 @@ ghost use Rattle.session_check.specs.Apart.{IdsDiffer, MarksDiffer, AreApart};
 ghost use Rattle.session_check.specs.Before.{AreDated, StandLast};
 ghost use Rattle.session_check.specs.LawfulSessions.{AreLawfulSessions};
 
-use crate::before::are_above;
+use crate::before::{any_undoable, are_above};
 use crate::distinct::are_distinct;
 use crate::marks::{Which, id_numbers, marks, sorted_marks};
 use crate::own::are_sound;
@@ -66,7 +66,19 @@ fn marks_differ(alloc: Global, sessions: &[Record], which: Which) -> Result<bool
     are_distinct(alloc, marks.as_slice())
 }
 
+/// Makes marks only where a session can be undone. Where none can, none has to be the last.
+#[tactic(auto, using(crate::proofs::Last::none_undoable))]
 fn stand_last(alloc: Global, sessions: &[Record]) -> Result<bool, AllocError>
+    ensures { IfOk result (λ last. Decides last (StandLast sessions.now)) }
+{
+    if any_undoable(sessions) {
+        stand_last_by_marks(alloc, sessions)
+    } else {
+        Ok(true)
+    }
+}
+
+fn stand_last_by_marks(alloc: Global, sessions: &[Record]) -> Result<bool, AllocError>
     ensures { IfOk result (λ last. Decides last (StandLast sessions.now)) }
 {
     let marks = sorted_marks(alloc, sessions, Which::Standing)?;

@@ -3,7 +3,7 @@ use Rattle.std.specs.List.{list_all}
 use Rattle.session_check.specs.declared.marks.Mark.{Mark}
 use Rattle.session_check.specs.Before.{is_above, StandLast}
 use Rattle.session_check.proofs.Last.{last_decides}
-use Rattle.session_check.proofs.check.stand_last.Goals as goal
+use Rattle.session_check.proofs.check.stand_last_by_marks.Goals as goal
 
 pub returns : goal.returns
 returns c =
