@@ -1,10 +1,8 @@
--- The test of sessions that can be undone decides that they were activated last: `last_decides`. Where none can be
--- undone there is nothing to test: `none_undoable`.
-use Rattle.std.proofs.Common.{◌≡◌, ℕ, ◌<◌, ◌&&◌, true, false, not, List, nat_lt, sym, ap, ◌∙◌, refl, inl, inr}
-use Rattle.std.proofs.Common.{Decides, arith}
-use Rattle.std.specs.List.{list_all, list_any}
+-- The test of sessions that can be undone decides that they were activated last: `last_decides`.
+use Rattle.std.proofs.Common.{◌≡◌, ℕ, ◌<◌, ◌&&◌, true, not, List, nat_lt, ap, ◌∙◌, refl, inl, inr, Decides, arith}
+use Rattle.std.specs.List.{list_all}
 use Rattle.std.specs.Str.{bytes_eq}
-use Rattle.std.proofs.lemmas.Bool.{cases_lt, true≢false}
+use Rattle.std.proofs.lemmas.Bool.{cases_lt}
 use Rattle.std.proofs.lemmas.Bool.Decides.{Decides-and, Decides-ltb, Decides-not}
 use Rattle.std.proofs.lemmas.Slice.Eq.{bytes_eq-Decides}
 use Rattle.apex_base.specs.declared.records.Part.{Part}
@@ -20,11 +18,6 @@ use Rattle.session_check.specs.Before.{is_above, StandLast}
 use Rattle.session_check.specs.Marks.{has_later, mark_of, AreMarks}
 use Rattle.session_check.proofs.Marked.{IsMarkOf, marked_in, is_marked_in}
 use Rattle.session_check.proofs.Peers.{part_named, named_part}
-
--- where no session can be undone, none has to be the last
-pub none_undoable : (ss : List Record) → list_any (λ r. is_undoable r.state) ss ≡ false → StandLast ss
-none_undoable ss none r s name i j n m u v = absurd (true≢false
-    (sym (in_any (λ (r : Record). is_undoable r.state) r ss i u) ∙ none))
 
 -- no mark of a name of the session is of a later boot
 abbrev IsLast : List Mark → Record → Type 0

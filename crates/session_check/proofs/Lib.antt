@@ -7,3 +7,4 @@ pub mod Marked
 pub mod Orders
 pub mod Peers
 pub mod Places
+pub mod Unasked

@@ -10,7 +10,7 @@ use crate::before::{any_undoable, are_above};
 use crate::distinct::are_distinct;
 use crate::marks::{Which, id_numbers, marks, sorted_marks};
 use crate::own::are_sound;
-use crate::undone::{are_after_undone, are_undone, have_undone};
+use crate::undone::{any_undoes, are_after_undone, are_undone, have_undone};
 use apex_base::Record;
 use std::alloc::{AllocError, Global};
 
@@ -67,7 +67,7 @@ fn marks_differ(alloc: Global, sessions: &[Record], which: Which) -> Result<bool
 }
 
 /// Makes marks only where a session can be undone. Where none can, none has to be the last.
-#[tactic(auto, using(crate::proofs::Last::none_undoable))]
+#[tactic(auto, using(crate::proofs::Unasked::none_undoable))]
 fn stand_last(alloc: Global, sessions: &[Record]) -> Result<bool, AllocError>
     ensures { IfOk result (λ last. Decides last (StandLast sessions.now)) }
 {
@@ -85,7 +85,20 @@ fn stand_last_by_marks(alloc: Global, sessions: &[Record]) -> Result<bool, Alloc
     Ok(are_above(sessions, marks.as_slice()))
 }
 
+/// Makes marks only where a session takes another back. Where none does, none has to be what a rollback makes.
+#[tactic(auto, using(crate::proofs::Unasked::none_undo))]
 fn have_rollback_sessions(alloc: Global, sessions: &[Record]) -> Result<bool, AllocError>
+    requires { AreDated sessions.now }
+    ensures { IfOk result (λ have. have ≡ have_rollback_sessions sessions.now) }
+{
+    if any_undoes(sessions) {
+        have_rollback_sessions_by_marks(alloc, sessions)
+    } else {
+        Ok(are_undone(sessions))
+    }
+}
+
+fn have_rollback_sessions_by_marks(alloc: Global, sessions: &[Record]) -> Result<bool, AllocError>
     requires { AreDated sessions.now }
     ensures { IfOk result (λ have. have ≡ have_rollback_sessions sessions.now) }
 {

@@ -67,7 +67,8 @@ fn is_name_new(p: &Part, others: &[Part]) -> bool
     others.iter().all(|q| !p.name.is_same(&q.name))
 }
 
-fn undoes(kind: Kind) -> bool
+/// Whether this is the kind of a rollback's session.
+pub(crate) fn undoes(kind: Kind) -> bool
     ensures { result ≡ undoes kind }
 {
     matches!(kind, Kind::RollbackOf(_))

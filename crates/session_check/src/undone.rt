@@ -1,7 +1,7 @@
 //! The sessions of rollbacks: which session each takes back, and that it is what that rollback makes.
 ghost use Rattle.std.specs.Prelude.{◌≡◌, ◌+◌, map};
 ghost use Rattle.std.specs.Cmp.Lexicographic.{pointwise};
-ghost use Rattle.std.specs.List.{list_all};
+ghost use Rattle.std.specs.List.{list_all, list_any};
 ghost use Rattle.std.specs.Option.{option_copied};
 ghost use Rattle.apex_base.specs.Commit.{rollback_id, part_before};
 ghost use Rattle.apex_base.specs.Rollbacks.{is_committed};
@@ -10,6 +10,7 @@ ghost use Rattle.apex_world.specs.Decided.{implies, is_same_id, is_same_target, 
 ghost use Rattle.apex_world.specs.Decided.{is_after_undone};
 ghost use Rattle.apex_world.specs.Decided.{is_rollback_session, has_undone, undoes_it};
 ghost use Rattle.apex_world.specs.Lawful.{is_verified};
+ghost use Rattle.apex_world.specs.Rows.{undoes};
 ghost use Rattle.apex_base.specs.declared.records.Target.TheVariants.{Module};
 ghost use Rattle.session_check.specs.declared.marks.Which.TheVariants.{Succeeded};
 ghost use Rattle.session_check.specs.Before.{AreDated};
@@ -17,7 +18,7 @@ ghost use Rattle.session_check.specs.Marks.{AreMarks};
 
 use crate::before::before;
 use crate::marks::Mark;
-use crate::own::{is_committed, is_same_version, target_version};
+use crate::own::{is_committed, is_same_version, target_version, undoes};
 use apex_base::{Kind, Part, Record, SessionId, State, Target, session_of};
 
 // When they were activated
@@ -57,6 +58,13 @@ fn is_before_boot(boot: u32, r: Option<&Record>) -> bool
 }
 
 // What they are
+
+/// Whether there is a session of a rollback.
+pub(crate) fn any_undoes(sessions: &[Record]) -> bool
+    ensures { result ≡ list_any (λ r. undoes r.kind) sessions.now }
+{
+    sessions.iter().any(|r| undoes(r.kind))
+}
 
 /// Whether each session of a rollback is what the rollback of its session makes, by the marks of those that succeeded.
 pub(crate) fn have_undone(sessions: &[Record], marks: &[Mark]) -> bool
