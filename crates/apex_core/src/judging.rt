@@ -30,7 +30,9 @@ use apex_world::Reply;
 use row_map::Rows;
 use std::alloc::{AllocError, Global};
 
-/// Ready: the session's record changes where it was VERIFIED.
+/// Ready: the session's record changes where it was VERIFIED. What judges a call stands apart from all that judge another,
+/// so that no call makes room for the answers of another.
+#[inline(never)]
 fn judge_ready(
     alloc: Global,
     rows: &Rows,
@@ -80,6 +82,7 @@ fn change_state(alloc: Global, place: usize, r: &Record, next: State) -> Result<
 }
 
 /// The state of a session, or of a child's parent.
+#[inline(never)]
 fn judge_state(
     alloc: Global,
     rows: &Rows,

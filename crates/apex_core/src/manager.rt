@@ -88,10 +88,9 @@ pub(crate) fn kind_units(kind: Kind) -> u32
     }
 }
 
-/// One call: judged, and then done in the rows and the tables. It stands apart from `act`, and `change` from it: a function
-/// clears, when it is entered, the locals of all calls that the compiler writes into it, and a call that changes nothing
-/// shouldn't pay for those of one that does.
-#[inline(never)]
+/// One call: judged, and then done in the rows and the tables. `change` stands apart from it: a function clears, when it is
+/// entered, the locals of all calls that the compiler writes into it, and a call that changes nothing shouldn't pay for
+/// those of one that does.
 fn perform(alloc: Global, rows: &mut Rows, tables: &mut Tables, call: &CheckedCall) -> Answer
     requires built { IsBuilt (call_of call.now) }
     requires stands { (w : World) × StandsFor rows.old tables.old w }
