@@ -14,7 +14,7 @@ use Rattle.std.specs.declared.cmp.Ordering.{Ordering}
 use Rattle.std.specs.declared.cmp.Ordering.TheVariants.{Less, Equal, Greater}
 use Rattle.apex_base.specs.Members.{In}
 use Rattle.session_check.specs.declared.marks.Mark.{Mark}
-use Rattle.session_check.specs.Marks.{mark_cmp, is_below, is_below_by}
+use Rattle.session_check.specs.Marks.{boot_cmp, mark_cmp, is_below, is_below_by}
 
 -- an element stands at some place
 pub place_of : {X : Type 0} (x : X) (xs : List X) → In x xs → (k : ℕ) × (k < length xs) × (get_or xs k x ≡ x)
@@ -31,13 +31,17 @@ at_place (x ∷ xs) (suc k) d lt = inr (at_place xs k d (omega arith))
 abbrev names_cmp : List ℕ → List ℕ → Ordering
 names_cmp = slice_cmp nat_cmp
 
-same_name : (a b : List ℕ) → names_cmp a b ≡ Equal → a ≡ b
+pub same_name : (a b : List ℕ) → names_cmp a b ≡ Equal → a ≡ b
 same_name = slice_cmp-IsAntisymmetric nat_cmp-IsAntisymmetric
 
 itself : (a : List ℕ) → names_cmp a a ≡ Equal
 itself = tied_itself nat_list_cmp_total
 
--- the order of marks is one
+-- the orders of marks are orders
+pub boot_total : IsTotalOrder boot_cmp
+boot_total = then_total (on_total (λ (m : Mark). m.boot) nat_cmp_total)
+    (then_total (on_total (λ (m : Mark). m.session) nat_cmp_total) (on_total (λ (m : Mark). m.name) nat_list_cmp_total))
+
 pub mark_total : IsTotalOrder mark_cmp
 mark_total = then_total (on_total (λ (m : Mark). m.name) nat_list_cmp_total)
     (then_total (on_total (λ (m : Mark). m.boot) nat_cmp_total) (on_total (λ (m : Mark). m.session) nat_cmp_total))

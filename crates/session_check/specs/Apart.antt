@@ -7,7 +7,7 @@ use Rattle.apex_world.specs.Decided.{is_after_undone}
 use Rattle.session_check.specs.declared.marks.Which.{Which}
 use Rattle.session_check.specs.declared.marks.Which.TheVariants.{Unfinished, Available, Activated}
 use Rattle.session_check.specs.Before.{StandLast}
-use Rattle.session_check.specs.Marks.{mark_cmp, marks_of, id_numbers}
+use Rattle.session_check.specs.Marks.{boot_cmp, marks_of, id_numbers}
 use Rattle.session_check.specs.Sound.{is_sound}
 
 -- no two ids are the same
@@ -16,7 +16,7 @@ IdsDiffer sessions = IsDistinct (eq_by_cmp nat_cmp) (flat_map id_numbers session
 
 -- no two marks are the same
 abbrev pub MarksDiffer : Which → List Record → Type 0
-MarksDiffer which sessions = IsDistinct (eq_by_cmp mark_cmp) (flat_map (marks_of which) sessions)
+MarksDiffer which sessions = IsDistinct (eq_by_cmp boot_cmp) (flat_map (marks_of which) sessions)
 
 pub record AreApart (boots : ℕ) (sessions : List Record) : Type 0 where
   pub sound : list_all (is_sound boots) sessions ≡ true

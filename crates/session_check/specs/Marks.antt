@@ -41,6 +41,12 @@ marks_of which r = if counts which r then map (mark_of which r) r.parts else []
 abbrev pub id_numbers : Record → List ℕ
 id_numbers r = map (λ id. id.0) (ids_of r)
 
+-- Whether two marks are one: boots first, since they are cheap to compare
+abbrev pub boot_cmp : Mark → Mark → Ordering
+boot_cmp m n =
+    ordering_then (nat_cmp m.boot n.boot)
+    (ordering_then (nat_cmp m.session n.session) (slice_cmp nat_cmp m.name n.name))
+
 -- Marks in order
 
 -- by name, then by boot, then by session

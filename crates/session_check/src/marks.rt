@@ -1,16 +1,18 @@
 //! Marks of sessions: what two sessions may not have in common, for each name.
 ghost use Rattle.std.specs.Prelude.{◌≡◌, ◌++◌, IfOk, OnOk, flat_map, map};
-ghost use Rattle.session_check.specs.Marks.{counts, mark_of, marks_of, id_numbers, AreMarks};
+ghost use Rattle.session_check.specs.Marks.{counts, mark_of, marks_of, mark_cmp, id_numbers, AreMarks};
 
 use apex_base::{Name, Part, Record, RollbackState, SessionId};
 use std::alloc::{AllocError, Global};
+use std::cmp::Ordering;
 
-/// A name, the boot that activated a session of the name, and the session. Marks are ordered by name, then by boot.
+/// A name, the boot that activated a session of the name, and the session. Names stand last, since numbers are cheaper
+/// to compare.
 #[derive(Clone, Copy, PartialEq, Eq, PartialOrd, Ord)]
 pub(crate) struct Mark {
-    pub(crate) name: Name,
     pub(crate) boot: u32,
     pub(crate) session: u32,
+    pub(crate) name: Name,
 }
 
 /// Which sessions are marked.
@@ -23,7 +25,7 @@ pub(crate) enum Which {
     Succeeded,
 }
 
-/// The marks of these sessions, in order.
+/// The marks of these sessions, by name and then by boot.
 pub(crate) fn sorted_marks(
     alloc: Global,
     sessions: &[Record],
@@ -32,8 +34,17 @@ pub(crate) fn sorted_marks(
     ensures { IfOk result (λ marks. AreMarks which sessions.now marks.items) }
 {
     let mut marks = marks(alloc, sessions, which)?;
-    marks.sort()?;
+    marks.sort_by(mark_cmp)?;
     Ok(marks)
+}
+
+fn mark_cmp(m: &Mark, n: &Mark) -> Ordering
+    ensures { result ≡ mark_cmp m.now n.now }
+{
+    m.name
+        .cmp(&n.name)
+        .then(m.boot.cmp(&n.boot))
+        .then(m.session.cmp(&n.session))
 }
 
 /// The marks of these sessions.
