@@ -11,6 +11,7 @@ ghost use Rattle.apex_core.specs.Refused.{AreBootable, AreRefused, HasBootsLeft}
 ghost use Rattle.apex_core.specs.Refused.{are_simple, is_childless, is_plain, unbuilt_tag};
 
 use apex_base::{Kind, Record, Scale, SessionId, Why};
+use package_store::has_tag;
 use row_map::Rows;
 use row_opening::{BadRows, Boots, OpenedRows, open_rows};
 use std::alloc::{AllocError, Global};
@@ -120,13 +121,4 @@ fn has_rows(rows: &Rows, tag: u8) -> bool
         }
     }
     false
-}
-
-fn has_tag(key: &[u8], tag: u8) -> bool
-    ensures { result ≡ has_tag tag key.now }
-{
-    match key {
-        [first, ..] => *first == tag,
-        [] => false,
-    }
 }

@@ -3,11 +3,12 @@ ghost use Rattle.std.specs.Prelude.{◌≡◌, ◌<◌, ◌^◌, option_map};
 ghost use Rattle.std.specs.Cmp.Lexicographic.{slice_cmp};
 ghost use Rattle.std.specs.List.Sorted.{IsStrictlySortedBy};
 ghost use Rattle.std.specs.Ordering.{nat_cmp};
-ghost use Rattle.apex_base.specs.RowSums.{kept_weight, has_tag};
+ghost use Rattle.apex_base.specs.RowSums.{kept_weight};
 ghost use Rattle.row_codec.specs.Batch.{keys_of};
 ghost use Rattle.row_map.specs.Rows.{changed};
 ghost use Rattle.apex_core.specs.Weights.{value_weight, lost, gained};
 
+use package_store::has_tag;
 use row_codec::Row;
 use row_map::Rows;
 
@@ -54,16 +55,7 @@ fn value_weight(key: &[u8], value: Option<&[u8]>) -> u64
     ensures { result ≡ value_weight key.now (option_map (λ bytes. bytes.now) value.entry) }
 {
     match value {
-        Some(content) if is_file(key) => content.len() as u64 + 256,
+        Some(content) if has_tag(key, FILE) => content.len() as u64 + 256,
         Some(_) | None => 0,
-    }
-}
-
-fn is_file(key: &[u8]) -> bool
-    ensures { result ≡ has_tag 5 key.now }
-{
-    match key {
-        [tag, ..] => *tag == FILE,
-        [] => false,
     }
 }

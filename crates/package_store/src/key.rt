@@ -1,6 +1,7 @@
 //! Keys and values of rows.
 ghost use Rattle.std.specs.Prelude.{◌≡◌, ◌<◌, [], ◌∷◌, IfOk};
 ghost use Rattle.apex_base.specs.Keys.{file_front};
+ghost use Rattle.apex_base.specs.RowSums.{has_tag};
 ghost use Rattle.apex_base.specs.Spelling.{target_text};
 ghost use Rattle.package_store.specs.Settled.{HasPart};
 
@@ -15,6 +16,16 @@ pub(crate) const BACKUP: u8 = 4;
 
 /// The tag of the rows of files.
 pub(crate) const FILE: u8 = 5;
+
+/// Whether a key is one of the rows of a tag.
+pub fn has_tag(key: &[u8], tag: u8) -> bool
+    ensures { result ≡ has_tag tag key.now }
+{
+    match key {
+        [first, ..] => *first == tag,
+        [] => false,
+    }
+}
 
 /// The key of a row of a name.
 pub(crate) fn name_key(alloc: Global, tag: u8, name: &Name) -> Result<Vec<u8>, AllocError>

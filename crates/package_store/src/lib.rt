@@ -17,7 +17,7 @@ mod weight;
 
 pub use held::{HeldByName, held_by_name, target_of_name};
 pub use kept::KeptParts;
-pub use key::file_front;
+pub use key::{file_front, has_tag};
 pub use laws::{rows_are_those_shown, settled_by_key};
 pub use placing::put;
 pub use reading::{module_of, path_in};

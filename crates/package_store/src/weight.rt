@@ -1,9 +1,9 @@
 //! What the modules that are kept weigh.
 ghost use Rattle.std.specs.Prelude.{◌≡◌, ◌<◌, ◌^◌};
-ghost use Rattle.apex_base.specs.RowSums.{kept_weight, file_row_weight, has_tag};
+ghost use Rattle.apex_base.specs.RowSums.{kept_weight, file_row_weight};
 ghost use Rattle.row_map.specs.Rows.{rows_of};
 
-use crate::key::FILE;
+use crate::key::{FILE, has_tag};
 use apex_base::Bytes;
 use std::collections::BTreeMap;
 
@@ -19,13 +19,4 @@ pub fn kept_weight(rows: &BTreeMap<Vec<u8>, Bytes>) -> u64
         }
     }
     weight
-}
-
-fn has_tag(key: &[u8], tag: u8) -> bool
-    ensures { result ≡ has_tag tag key.now }
-{
-    match key {
-        [first, ..] => *first == tag,
-        [] => false,
-    }
 }

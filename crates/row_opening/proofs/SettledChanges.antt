@@ -13,7 +13,8 @@ use Rattle.row_map.specs.Rows.{changed, changed_at}
 use Rattle.row_map.proofs.Maps.{at_insert, at_remove, itself, key_is, changed_other}
 use Rattle.apex_world.specs.Opened.{opened_sessions}
 use Rattle.package_store.specs.Settled.{IsChange, settled_value}
-use Rattle.row_opening.specs.SettledTags.{has_tag, changes_tag}
+use Rattle.apex_base.specs.RowSums.{has_tag}
+use Rattle.row_opening.specs.SettledTags.{changes_tag}
 
 first_true : (a b : Bool) → (a || b) ≡ true → b ≡ false → a ≡ true
 first_true true b e f = refl

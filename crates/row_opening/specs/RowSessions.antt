@@ -1,8 +1,8 @@
 -- The sessions that rows of tag 2 spell, in the order of their keys.
 use Rattle.std.specs.Prelude.{ℕ, ◌==◌, ◌-◌, List, [], ◌∷◌, Option, Some, None, if◌then◌else◌}
 use Rattle.apex_base.specs.declared.records.Record.{Record}
+use Rattle.apex_base.specs.RowSums.{has_tag}
 use Rattle.row_opening.specs.RightRows.{record_in_row}
-use Rattle.row_opening.specs.SettledTags.{has_tag}
 
 -- the record of a row, if it is one of tag 2 that spells one
 abbrev pub record_in_entry : List ℕ → List ℕ → Option Record

@@ -1,8 +1,9 @@
 -- Which tags have the rows of the world that they open to, where rows depend on the sessions: docs/rows.md, "Opening".
-use Rattle.std.specs.Prelude.{◌≡◌, ℕ, ◌==◌, Bool, true, false, List, [], ◌∷◌}
+use Rattle.std.specs.Prelude.{◌≡◌, ℕ, Bool, true, false, List}
 use Rattle.std.specs.List.{list_any}
 use Rattle.apex_base.specs.declared.numbers.Scale.{Scale}
 use Rattle.apex_base.specs.Keys.{RowMap}
+use Rattle.apex_base.specs.RowSums.{has_tag}
 use Rattle.row_codec.specs.declared.batch.Row.{Row}
 use Rattle.row_opening.specs.BadRows.{AgreesAt, DiffersAt}
 
@@ -10,10 +11,6 @@ use Rattle.row_opening.specs.BadRows.{AgreesAt, DiffersAt}
 pub record Tells (m : RowMap) (tag : ℕ) (answer : Bool) : Type 0 where
   pub right : answer ≡ true → (scale : Scale) → AgreesAt m scale tag
   pub wrong : answer ≡ false → (scale : Scale) → DiffersAt m scale tag
-
-abbrev pub has_tag : ℕ → List ℕ → Bool
-has_tag tag [] = false
-has_tag tag (first ∷ key) = first == tag
 
 -- a change is one of a row of this tag
 abbrev pub changes_tag : ℕ → List Row → Bool

@@ -5,7 +5,6 @@ ghost use Rattle.apex_base.specs.Text.{is_name};
 ghost use Rattle.apex_world.specs.Opened.{end_of};
 ghost use Rattle.row_opening.specs.RightRows.{is_data_row, is_watch_row, record_in_row};
 ghost use Rattle.row_opening.specs.RowBytes.{FitRow};
-ghost use Rattle.row_opening.specs.SettledTags.{has_tag};
 
 use apex_base::{Name, Record, SessionId, short_at, u32_at, u64_at};
 use session_record::decode_record;
@@ -15,16 +14,6 @@ use std::alloc::{AllocError, Global};
 pub(crate) fn known_bytes(key: &[u8], value: &[u8])
     ensures { FitRow (key.now, value.now) }
 {}
-
-/// Whether a row's key begins with a tag.
-pub(crate) fn has_tag(key: &[u8], tag: u8) -> bool
-    ensures { result ≡ has_tag tag key.now }
-{
-    match key {
-        [first, ..] => *first == tag,
-        [] => false,
-    }
-}
 
 /// The record that a row of tag 2 spells, by its key without the tag.
 pub fn record_in_row(alloc: Global, key: &[u8], value: &[u8]) -> Result<Option<Record>, AllocError>

@@ -7,8 +7,9 @@ ghost use Rattle.row_opening.specs.RowBytes.{FitRow, FitRows};
 ghost use Rattle.row_opening.specs.RowSessions.{sessions_in, record_in_entry, left_after, left_after_all};
 ghost use Rattle.row_opening.specs.SettledTags.{Tells};
 
-use crate::rows::{has_tag, known_bytes, record_in_row};
+use crate::rows::{known_bytes, record_in_row};
 use apex_base::Record;
+use package_store::has_tag;
 use row_map::Rows;
 use std::alloc::{AllocError, Global};
 

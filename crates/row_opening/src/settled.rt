@@ -4,9 +4,8 @@ ghost use Rattle.apex_world.specs.Opened.{opened_sessions};
 ghost use Rattle.row_opening.specs.SettledTags.{Tells, changes_tag};
 
 use crate::files::are_files;
-use crate::rows::has_tag;
 use apex_base::Record;
-use package_store::{rows_are_those_shown, settle};
+use package_store::{has_tag, rows_are_those_shown, settle};
 use row_codec::Row;
 use row_map::Rows;
 use std::alloc::{AllocError, Global};

@@ -3,13 +3,13 @@ ghost use Rattle.std.specs.Prelude.{◌≡◌, Decides};
 ghost use Rattle.std.specs.Option.{is_some};
 ghost use Rattle.std.specs.FinMap as fin;
 ghost use Rattle.apex_base.specs.Numbers.{scale_modules};
-ghost use Rattle.apex_base.specs.RowSums.{has_tag};
 ghost use Rattle.apex_world.specs.Opened.{opened, end_of};
 ghost use Rattle.row_opening.specs.BadRows.{opened_rows};
 ghost use Rattle.world_check.specs.LawfulParts.{HasLawfulWatches};
 ghost use Rattle.world_check.specs.WatchRows.{is_in_time, one_less, left_after, left_after_all};
 
 use apex_base::{Scale, u64_at};
+use package_store::has_tag;
 use row_map::Rows;
 
 /// The tag of the rows of watches.
@@ -44,22 +44,13 @@ fn are_within(rows: &Rows, most: u32) -> bool
 fn left_after(left: u32, key: &[u8], value: &[u8]) -> Option<u32>
     ensures { result ≡ left_after left (key.now, value.now) }
 {
-    if !is_watch(key) {
+    if !has_tag(key, WATCH) {
         return Some(left);
     }
     if !is_in_time(value) {
         return None;
     }
     left.checked_sub(1)
-}
-
-fn is_watch(key: &[u8]) -> bool
-    ensures { result ≡ has_tag 9 key.now }
-{
-    match key {
-        [tag, ..] => *tag == WATCH,
-        [] => false,
-    }
 }
 
 #[tactic(auto, unfolding(apex_world::specs::Opened::end_of))]
