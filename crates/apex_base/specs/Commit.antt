@@ -1,6 +1,6 @@
 -- What the commit of a rollback does to the sessions: docs/rollbacks.md, "Commit"
 -- (AOSP's RollbackManagerServiceImpl).
-use Rattle.std.specs.Prelude.{◌≡◌, ℕ, ◌+◌, ◌==◌, ◌&&◌, Bool, true, false, refl, codes, List, [], ◌∷◌, map, drop, find, Option, Some, None, Result, Ok, Err, if◌then◌else◌}
+use Rattle.std.specs.Prelude.{◌≡◌, ℕ, ◌+◌, ◌==◌, ◌&&◌, Bool, true, false, nat_le, refl, codes, List, [], ◌∷◌, map, drop, find, Option, Some, None, Result, Ok, Err, if◌then◌else◌}
 use Rattle.apex_base.specs.declared.numbers.SessionId.{SessionId}
 use Rattle.apex_base.specs.declared.records.Cause.TheVariants.{Superseded}
 use Rattle.apex_base.specs.declared.records.Kind.{Kind}
@@ -18,6 +18,10 @@ use Rattle.apex_base.specs.declared.refusal.Refusal.TheVariants.{NoRollback, Not
 use Rattle.apex_base.specs.Held.{before, is_undoable}
 use Rattle.apex_base.specs.Rollbacks.{not_enabled}
 use Rattle.apex_base.specs.Sessions.{names, shares, with_session}
+
+-- the ids that callers may give: above them are those of the sessions that take others back
+abbrev pub is_caller_id : SessionId → Bool
+is_caller_id id = nat_le 1 id.0 && nat_le id.0 1073741823
 
 -- The new session
 
@@ -77,11 +81,17 @@ committed sessions x print = with_session (rollback_session sessions x print) (m
 
 -- Refusals
 
--- no session with rollback has the id
+-- a session that may be rolled back
 abbrev pub rolls_back : Kind → Bool
 rolls_back WithRollback = true
 rolls_back _ = false
 
+-- a session that takes another back
+abbrev pub undoes : Kind → Bool
+undoes (RollbackOf x) = true
+undoes _ = false
+
+-- no session with rollback has the id
 abbrev pub with_rollback_only : SessionId → Option Record → Result Record Refusal
 with_rollback_only id None = Err (NoRollback id)
 with_rollback_only id (Some r) = if rolls_back r.kind then Ok r else Err (NoRollback id)

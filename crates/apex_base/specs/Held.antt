@@ -37,6 +37,11 @@ is_standing state.Success = true
 is_standing state.RevertInProgress = true
 is_standing _ = false
 
+-- the state of a session that the next boot activates
+abbrev pub is_staged : State → Bool
+is_staged state.Staged = true
+is_staged _ = false
+
 -- the state of a session that was marked successful
 abbrev pub is_success : State → Bool
 is_success state.Success = true

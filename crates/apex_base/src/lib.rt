@@ -43,8 +43,8 @@ pub use records::{
     RollbackState, State, Target,
 };
 pub use refusal::Refusal;
-pub use sessions::{place_of, session_of};
+pub use sessions::{part_of, place_of, session_of};
 pub use shared::Shared;
-pub use targets::{before, held, is_module, is_target, kept};
+pub use targets::is_module;
 pub use text::{Name, Print};
 pub use why::Why;

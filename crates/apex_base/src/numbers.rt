@@ -1,5 +1,6 @@
 //! Numbers with a range, and the two scales of a store.
 ghost use Rattle.std.specs.Prelude.{◌≡◌};
+ghost use Rattle.apex_base.specs.Commit.{is_caller_id, rollback_id};
 ghost use Rattle.apex_base.specs.Ranges.{IsVersion, IsMillis};
 ghost use Rattle.apex_base.specs.Numbers.{version_of, millis_of, scale_modules, scale_file_weight, scale_data_weight};
 ghost use Rattle.apex_base.specs.Numbers.{scale_units, scale_device_len, scale_number, scale_of_number};
@@ -96,6 +97,25 @@ impl Millis {
 /// The id of a session, or of a child of one.
 #[derive(Clone, Copy, Debug, PartialEq, Eq, PartialOrd, Ord)]
 pub struct SessionId(pub u32);
+
+/// What the id of the session that takes another back has more than the other's, and the first id that no caller may give.
+const ROLLBACK: u32 = 1073741824;
+
+impl SessionId {
+    /// Whether a caller may give this id.
+    pub fn is_caller_id(self) -> bool
+        ensures { result ≡ is_caller_id self }
+    {
+        self.0 >= 1 && self.0 < ROLLBACK
+    }
+
+    /// The number of the session that takes this one back, or of its child that takes this child back.
+    pub fn rollback_number(self) -> u64
+        ensures { result ≡ (rollback_id self).0 }
+    {
+        u64::from(self.0) + u64::from(ROLLBACK)
+    }
+}
 
 /// How large a store may grow: the table of `docs/formats/script.md`, "Scales".
 #[derive(Clone, Copy, Debug, PartialEq, Eq)]

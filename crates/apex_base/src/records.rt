@@ -3,7 +3,8 @@
 ghost use Rattle.std.specs.Prelude.{◌≡◌, find};
 ghost use Rattle.std.specs.Option.{option_copied};
 ghost use Rattle.std.specs.Str.{bytes_eq};
-ghost use Rattle.apex_base.specs.Held.{is_unfinished, is_standing, is_undoable, is_success, is_available};
+ghost use Rattle.apex_base.specs.Commit.{rolls_back, undoes};
+ghost use Rattle.apex_base.specs.Held.{is_unfinished, is_staged, is_standing, is_undoable, is_success, is_available};
 ghost use Rattle.apex_base.specs.Rollbacks.{given_up};
 ghost use Rattle.apex_base.specs.Moves.{state_number};
 
@@ -48,6 +49,13 @@ impl State {
             self,
             State::Verified | State::Staged | State::Activated | State::RevertInProgress
         )
+    }
+
+    /// Whether the next boot activates a session in this state.
+    pub fn is_staged(self) -> bool
+        ensures { result ≡ is_staged self }
+    {
+        matches!(self, State::Staged)
     }
 
     /// Whether the modules of a session in this state count.
@@ -113,6 +121,22 @@ pub enum Kind {
     RollbackOf(SessionId),
 }
 
+impl Kind {
+    /// Whether a session of this kind may be rolled back.
+    pub fn rolls_back(self) -> bool
+        ensures { result ≡ rolls_back self }
+    {
+        matches!(self, Kind::WithRollback)
+    }
+
+    /// Whether a session of this kind takes another back.
+    pub fn undoes(self) -> bool
+        ensures { result ≡ undoes self }
+    {
+        matches!(self, Kind::RollbackOf(_))
+    }
+}
+
 /// Where a module is: on the data partition, or preinstalled.
 #[derive(Clone, Copy, Debug, PartialEq, Eq)]
 pub enum Place {
@@ -141,7 +165,7 @@ pub enum Case {
     NoMount,
 }
 
-/// Why a session ended in ACTIVATION_FAILED or REVERTED. Only `Part` can come up yet.
+/// Why a session ended in ACTIVATION_FAILED or REVERTED. No script leads to one yet.
 #[derive(Clone, Copy)]
 pub enum Cause {
     Reverted,

@@ -1,15 +1,17 @@
-//! Sessions by their ids, in lists that ascend by id: `docs/sessions.md`. A look takes as many steps as the list's length
-//! has binary digits.
-ghost use Rattle.std.specs.Prelude.{◌≡◌, ◌≤◌, ◌<◌, None, Some, IfOk, MatchResult, insert, length};
+//! Sessions by their ids, in lists that ascend by id, and parts by their names: `docs/sessions.md`. A look for a session
+//! takes as many steps as the list's length has binary digits.
+ghost use Rattle.std.specs.Prelude.{◌≡◌, ◌≤◌, ◌<◌, None, Some, IfOk, MatchResult, find, insert, length};
 ghost use Rattle.std.specs.Prelude.{slice_get, slice_set};
 ghost use Rattle.std.specs.Option.{option_copied};
 ghost use Rattle.std.specs.List.Sorted.{IsBinarySearchResult, IsSearchInRange};
 ghost use Rattle.std.specs.Ordering.{nat_cmp};
+ghost use Rattle.std.specs.Str.{bytes_eq};
 ghost use Rattle.apex_base.specs.declared.records.Record.{Record};
 ghost use Rattle.apex_base.specs.Sessions.{Ascend, session_of, with_session};
 
 use crate::numbers::SessionId;
-use crate::records::Record;
+use crate::records::{Part, Record};
+use crate::text::Name;
 
 /// The place of the session of an id, or the place where one would stand. It takes no memory.
 pub fn place_of(sessions: &[Record], id: SessionId) -> Result<usize, usize>
@@ -34,6 +36,13 @@ pub fn session_of<'a>(sessions: &'a [Record], number: u64) -> Option<&'a Record>
         Ok(place) => Some(&sessions[place]),
         Err(_) => None,
     }
+}
+
+/// The first part of a name; None if there is none. It takes no memory.
+pub fn part_of<'a>(parts: &'a [Part], name: &Name) -> Option<&'a Part>
+    ensures { option_copied result ≡ find (λ p. bytes_eq p.name name.now) parts.now }
+{
+    parts.iter().find(|p| p.name.is_same(name))
 }
 
 fn search(sessions: &[Record], number: u64) -> Result<usize, usize>

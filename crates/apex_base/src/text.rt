@@ -6,10 +6,15 @@ ghost use Rattle.std.specs.Cmp;
 ghost use Rattle.std.specs.Str.{bytes_eq};
 ghost use Rattle.std.specs.Cmp.Lexicographic.{slice_cmp, pointwise, nat_list_eq_equiv, nat_list_cmp_total, texts_ties};
 ghost use Rattle.std.specs.Cmp.Lexicographic.{texts_po};
+ghost use Rattle.std.specs.Hash as fed;
+ghost use Rattle.std.specs.Hash.{items_Alike};
+ghost use Rattle.std.proofs.Common.{ap};
+ghost use Rattle.std.proofs.lemmas.Bool.{eqb-true};
 ghost use Rattle.apex_base.specs.Text.{is_name, is_name_byte, is_print, is_print_byte, name_of, print_of};
 
 use crate::padded::ShortText;
 use std::cmp::Ordering;
+use std::hash::{Hash, Hasher};
 use std::marker::Model;
 
 const CAPACITY: usize = 64;
@@ -99,6 +104,16 @@ impl Ord for Name {
 
     fn cmp(&self, other: &Name) -> Ordering {
         self.as_bytes().cmp(other.as_bytes())
+    }
+}
+
+impl Hash for Name {
+    ghost hash_input = { λ name. fed.slice fed.u8 name };
+
+    ghost respects_eq = { (items_Alike (record { fed = λ x y e. ap fed.u8 (eqb-true x y e) })).fed };
+
+    fn hash<H: Hasher>(&self, state: &mut H) {
+        self.as_bytes().hash(state);
     }
 }
 

@@ -13,23 +13,24 @@ use Rattle.apex_base.proofs.MemberLemmas.{in_map_back}
 use Rattle.row_map.specs.Rows.{changed, rows_of}
 use Rattle.apex_world.specs.declared.calls.BootOrder.{BootOrder}
 use Rattle.apex_world.specs.Boot.{boot_world}
-use Rattle.apex_world.specs.BootByRows.{become_in, GoesByRows}
-use Rattle.apex_world.specs.Invariance.{IsOrderOf}
+use Rattle.world_laws.specs.BootByRows.{become_in, GoesByRows}
+use Rattle.world_laws.specs.Invariance.{IsOrderOf}
 use Rattle.apex_world.specs.Limits.{units_of, weight}
 use Rattle.apex_world.specs.Rows.{rows}
 use Rattle.apex_world.specs.Running.{Running}
 use Rattle.apex_world.specs.Selection.{Mounts}
 use Rattle.apex_world.specs.World.{World, boots}
-use Rattle.apex_world.proofs.BootLoops.{boots_running}
-use Rattle.apex_world.proofs.PlainLemmas.{boot_plain}
-use Rattle.apex_world.proofs.QuietBoots.{boots_by_rows}
-use Rattle.apex_world.proofs.RowWeightLemmas.{file_rows_weigh}
-use Rattle.apex_core.specs.declared.booted.JudgedBoot.{JudgedBoot}
-use Rattle.apex_core.specs.declared.tables.Tables.{Tables}
-use Rattle.apex_core.specs.Booted.{IsBooted}
-use Rattle.apex_core.specs.Core.{IsSimple, IsStored, StandsFor}
-use Rattle.apex_core.specs.Unfinished.{AreUnfinished, unfinished_with}
-use Rattle.apex_core.proofs.TurnedSessions.{become_kept}
+use Rattle.world_laws.proofs.runs.BootLoops.{boots_running}
+use Rattle.world_facts.proofs.facts.PlainLemmas.{boot_plain}
+use Rattle.world_laws.proofs.rows.QuietBoots.{boots_by_rows}
+use Rattle.world_facts.proofs.facts.RowWeightLemmas.{file_rows_weigh}
+use Rattle.boot_recover.specs.declared.booted.JudgedBoot.{JudgedBoot}
+use Rattle.call_judge.specs.declared.tables.Tables.{Tables}
+use Rattle.boot_recover.specs.Booted.{IsBooted}
+use Rattle.call_judge.specs.Stands.{StandsFor}
+use Rattle.stored_world.specs.Stored.{IsSimple, IsStored}
+use Rattle.call_judge.specs.Unfinished.{AreUnfinished, unfinished_with}
+use Rattle.boot_recover.proofs.TurnedSessions.{become_kept}
 
 small_units : (scale : Scale) (n : ℕ) → n ≤ scale_units scale → n < 2 ^ 32
 small_units Small n low = omega (arith, low)

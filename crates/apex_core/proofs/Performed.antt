@@ -12,17 +12,17 @@ use Rattle.apex_world.specs.Limits.{weight}
 use Rattle.apex_world.specs.Rows.{rows}
 use Rattle.apex_world.specs.Step.{step}
 use Rattle.apex_world.specs.World.{World}
-use Rattle.apex_world.proofs.RowWeightLemmas.{file_rows_weigh}
+use Rattle.world_facts.proofs.facts.RowWeightLemmas.{file_rows_weigh}
 use Rattle.row_map.specs.Rows.{changed}
 use Rattle.apex_core.specs.declared.answer.Answer.{Answer}
 use Rattle.apex_core.specs.declared.answer.Answer.TheVariants.{Answered, NoMemory}
-use Rattle.apex_core.specs.declared.judged.Judged.{Judged}
-use Rattle.apex_core.specs.declared.judged.Patch.{Patch}
-use Rattle.apex_core.specs.declared.judged.Patch.TheVariants.{Nothing}
-use Rattle.apex_core.specs.declared.tables.Tables.{Tables}
-use Rattle.apex_core.specs.Core.{StandsFor}
-use Rattle.apex_core.specs.Judged.{IsJudged, IsPatched, IsSame, patched, clock_after, units_after, unfinished_after}
-use Rattle.apex_core.specs.Prepared.{IfAnswered, IfNoMemory}
+use Rattle.call_judge.specs.declared.judged.Judged.{Judged}
+use Rattle.call_judge.specs.declared.judged.Patch.{Patch}
+use Rattle.call_judge.specs.declared.judged.Patch.TheVariants.{Nothing}
+use Rattle.call_judge.specs.declared.tables.Tables.{Tables}
+use Rattle.call_judge.specs.Stands.{StandsFor}
+use Rattle.call_judge.specs.Judged.{IsJudged, IsPatched, IsSame, patched, clock_after, units_after, unfinished_after}
+use Rattle.apex_core.specs.Core.{IfAnswered, IfNoMemory}
 
 small_scale : (scale : Scale) (n : ℕ) → n ≤ scale_file_weight scale → n < 2 ^ 32
 small_scale Small n low = omega (arith, low)

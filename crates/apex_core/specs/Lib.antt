@@ -1,11 +1,1 @@
-pub mod Booted
 pub mod Core
-pub mod Ending
-pub mod Judged
-pub mod Moving
-pub mod Prepared
-pub mod Refused
-pub mod Submitting
-pub mod Taken
-pub mod Unfinished
-pub mod Weights

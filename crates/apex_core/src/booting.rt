@@ -1,14 +1,11 @@
 //! A boot from rows: `docs/boot.md`, and what becomes of the rows in `docs/rows.md`, "After a boot".
-ghost use Rattle.std.specs.Prelude.{◌≡◌, ◌<◌, ◌≤◌, ◌^◌};
-ghost use Rattle.apex_world.specs.Limits.{units_of};
+ghost use Rattle.std.specs.Prelude.{◌≡◌};
 
-use crate::booted::judge_boot;
-use crate::manager::{Core, kind_units};
-use crate::opening::{BootWhy, open_bootable};
-use crate::tables::Tables;
-use crate::unfinished::unfinished_of;
-use apex_base::{Listed, Mounter, Pick, Record};
+use crate::manager::Core;
+use apex_base::{Listed, Mounter, Pick};
 use apex_world::{ActiveSet, BootOrder, BootReply};
+use boot_recover::{BootWhy, judge_boot, open_bootable};
+use call_judge::{Tables, unfinished_of, units_of};
 use package_store::{kept_weight, rows_are_those_shown};
 use row_map::Rows;
 use std::alloc::Global;
@@ -18,10 +15,11 @@ impl Core {
     ghost use Rattle.std.specs.FinMap as fin;
     ghost use Rattle.apex_base.specs.declared.why.Why.TheVariants.{NoMemory};
     ghost use Rattle.apex_world.specs.Boot.{boot_reply, boot_world};
-    ghost use Rattle.apex_world.specs.Invariance.{IsOrderOf};
+    ghost use Rattle.world_laws.specs.Invariance.{IsOrderOf};
     ghost use Rattle.apex_world.specs.World.{World};
-    ghost use Rattle.apex_core.specs.Core.{IsStored, StandsFor};
-    ghost use Rattle.apex_core.specs.Refused.{AreBootable, AreRefused, HasBootsLeft, IsAnOrder};
+    ghost use Rattle.call_judge.specs.Stands.{StandsFor};
+    ghost use Rattle.stored_world.specs.Stored.{IsStored};
+    ghost use Rattle.boot_recover.specs.Refused.{AreBootable, AreRefused, HasBootsLeft, IsAnOrder};
 
     /// Boots a device from its rows, which may be anybody's, with an order that registers no observer. `Fault` with a tag
     /// comes exactly if they aren't rows to boot from (`AreRefused`): the least tag at which they aren't the rows of the
@@ -75,16 +73,4 @@ fn active_set(picks: Vec<Pick>) -> ActiveSet
     ensures { result ≡ picks.items }
 {
     Listed::of(picks)
-}
-
-/// The units of these sessions.
-fn units_of(sessions: &[Record]) -> u32
-    requires { units_of sessions.now < 2 ^ 32 }
-    ensures { result ≡ units_of sessions.now }
-{
-    let mut units = 0;
-    for r in sessions {
-        units += kind_units(r.kind);
-    }
-    units
 }

@@ -1,5 +1,5 @@
 //! The manager of one thread.
-ghost use Rattle.std.specs.Prelude.{◌≡◌, ◌≤◌, ◌<◌, ◌^◌, false, IfOk, IsSomeAnd, OnOk, OnErr, find, option_map};
+ghost use Rattle.std.specs.Prelude.{◌≡◌, false, IfOk, IsSomeAnd, OnOk, OnErr, find, option_map};
 ghost use Rattle.std.specs.Cmp.Lexicographic.{slice_cmp};
 ghost use Rattle.std.specs.List.Sorted.{IsStrictlySortedBy};
 ghost use Rattle.std.specs.Option.{ForSome};
@@ -10,138 +10,22 @@ ghost use Rattle.row_codec.specs.Batch.{keys_of};
 ghost use Rattle.apex_world.specs.declared.calls.Call.{Call};
 ghost use Rattle.apex_world.specs.Step.{step};
 ghost use Rattle.apex_world.specs.World.{World};
-ghost use Rattle.apex_world.specs.Limits.{kind_units};
 ghost use Rattle.apex_world.specs.Playable.{IsBuilt};
-ghost use Rattle.apex_core.specs.Core.{StandsFor, IsStored, Kept};
-ghost use Rattle.apex_core.specs.Prepared.{IfAnswered, IfNoMemory, call_of};
-ghost use Rattle.apex_core.specs.Judged.{HasRoom, IsJudged, IsPlaced, IsPatched, IsSame, units_after};
+ghost use Rattle.stored_world.specs.Stored.{IsStored};
+ghost use Rattle.call_judge.specs.Judged.{IsJudged, IsPlaced};
+ghost use Rattle.call_judge.specs.Prepared.{call_of};
+ghost use Rattle.call_judge.specs.Stands.{StandsFor};
+ghost use Rattle.apex_core.specs.Core.{IfAnswered, IfNoMemory, Kept};
 
 use crate::answer::Answer;
-use crate::judged::{Judged, Patch};
-use crate::judging::judge;
-use crate::prepared::{CheckedCall, Prepared};
-use crate::sessions::session_with;
-use crate::tables::Tables;
-use crate::unfinished::{enter_names, leave_names, make_room_under};
-use crate::weighing::weight_after;
-use apex_base::{Kind, SessionId, State};
+use apex_base::{SessionId, State};
 use apex_world::{ActiveSet, Reply};
+use call_judge::{
+    CheckedCall, Judged, Prepared, Tables, apply, judge, make_room, session_with, weight_after,
+};
 use row_map::Rows;
 use std::alloc::{AllocError, Global};
 use std::marker::Model;
-
-/// Takes the memory that a patch needs.
-fn make_room(tables: &mut Tables, patch: &Patch) -> Result<(), AllocError>
-    ensures room { OnOk result (HasRoom patch.now tables.new) }
-    ensures same { IsSame tables.old tables.new }
-{
-    match patch {
-        Patch::New { session, .. } => {
-            tables.sessions.reserve(1)?;
-            make_room_under(&mut tables.unfinished, session.get().parts.as_slice())
-        }
-        Patch::Nothing | Patch::Session { .. } | Patch::Success { .. } => Ok(()),
-    }
-}
-
-/// Changes the tables. It takes no memory.
-fn apply(tables: &mut Tables, patch: Patch, weight: u64)
-    requires placed { IsPlaced patch tables.old.sessions.items }
-    requires room { HasRoom patch tables.old }
-    requires few { units_after patch tables.old.units < 2 ^ 32 }
-    ensures { IsPatched patch weight tables.old tables.new }
-{
-    tables.weight = weight;
-    match patch {
-        Patch::Nothing => {}
-        Patch::Session { place, session } => {
-            leave_names(&mut tables.unfinished, session.get());
-            tables.sessions[place] = session.into_inner();
-        }
-        Patch::Success {
-            place,
-            session,
-            clock,
-        } => {
-            leave_names(&mut tables.unfinished, session.get());
-            tables.sessions[place] = session.into_inner();
-            tables.clock = clock;
-        }
-        Patch::New { place, session } => {
-            let r = session.get();
-            tables.units += kind_units(r.kind);
-            enter_names(&mut tables.unfinished, r.parts.as_slice(), r.id);
-            let _ = tables.sessions.insert(place, session.into_inner());
-        }
-    }
-}
-
-/// How many units a session of this kind counts.
-pub(crate) fn kind_units(kind: Kind) -> u32
-    ensures units { result ≡ kind_units kind }
-    ensures few { result ≤ 2 }
-{
-    match kind {
-        Kind::Plain => 1,
-        Kind::WithRollback => 2,
-        Kind::RollbackOf(_) => 0,
-    }
-}
-
-/// One call: judged, and then done in the rows and the tables. `change` stands apart from it: a function clears, when it is
-/// entered, the locals of all calls that the compiler writes into it, and a call that changes nothing shouldn't pay for
-/// those of one that does.
-fn perform(alloc: Global, rows: &mut Rows, tables: &mut Tables, call: &CheckedCall) -> Answer
-    requires built { IsBuilt (call_of call.now) }
-    requires stands { (w : World) × StandsFor rows.old tables.old w }
-    ensures reply { (w : World) → StandsFor rows.old tables.old w
-        → IfAnswered result (λ reply. reply ≡ (step w (call_of call.now)).reply) }
-    ensures stands { (w : World) → StandsFor rows.old tables.old w
-        → IfAnswered result (λ _. StandsFor rows.new tables.new (step w (call_of call.now)).world) }
-    ensures stays { (w : World) → StandsFor rows.old tables.old w
-        → IfNoMemory result (λ _. StandsFor rows.new tables.new w) }
-    ensures entered { IfNoMemory result (λ entered. entered ≡ false) }
-{
-    let Ok(judged) = judge(alloc, rows, tables, call) else {
-        return Answer::NoMemory { entered: false };
-    };
-    if judged.changes_nothing() {
-        return Answer::Answered(judged.reply);
-    }
-    match change(alloc, rows, tables, judged) {
-        Ok(reply) => Answer::Answered(reply),
-        Err(_) => Answer::NoMemory { entered: false },
-    }
-}
-
-/// What was judged of a call is done in the rows and the tables. Memory for all of it is taken first.
-#[inline(never)]
-fn change(
-    alloc: Global,
-    rows: &mut Rows,
-    tables: &mut Tables,
-    judged: Judged,
-) -> Result<Reply, AllocError>
-    requires judged { (w : World) × (call : Call) × (StandsFor rows.old tables.old w) × (IsJudged judged rows.old w call) }
-    requires placed { IsPlaced judged.patch tables.old.sessions.items }
-    requires ascending { IsStrictlySortedBy (slice_cmp nat_cmp) (keys_of judged.rows.items) }
-    ensures reply { IfOk result (λ reply. reply ≡ judged.reply) }
-    ensures stands { (w : World) (call : Call) → StandsFor rows.old tables.old w → IsJudged judged rows.old w call
-        → OnOk result (StandsFor rows.new tables.new (step w call).world) }
-    ensures stays { (w : World) → StandsFor rows.old tables.old w
-        → OnErr result (StandsFor rows.new tables.new w) }
-{
-    let reply = judged.reply;
-    let batch = judged.rows;
-    let patch = judged.patch;
-    make_room(tables, &patch)?;
-    let weight = weight_after(rows, tables.weight, &batch);
-    let added = rows.make_room(alloc, &batch)?;
-    drop(added);
-    let _ = rows.change_all(batch);
-    apply(tables, patch, weight);
-    Ok(reply)
-}
 
 /// Rows and tables that stand for a running world. A contract sees both.
 #[derive(Drop)]
@@ -157,8 +41,9 @@ impl Model for Core {
     ghost use Rattle.std.specs.Coded.{codes, coded_list, coded_ℕ};
     ghost use Rattle.std.specs.FinMap as fin;
     ghost use Rattle.apex_world.specs.World.{World};
-    ghost use Rattle.apex_core.specs.Core.{StandsFor, Kept};
-    ghost use Rattle.apex_core.specs.contracts.tables.Tables as t;
+    ghost use Rattle.apex_core.specs.Core.{Kept};
+    ghost use Rattle.call_judge.specs.Stands.{StandsFor};
+    ghost use Rattle.call_judge.specs.contracts.tables.Tables as t;
 
     ghost Value = { Kept };
 
@@ -227,4 +112,59 @@ impl Core {
     {
         self.rows
     }
+}
+
+/// One call: judged, and then done in the rows and the tables. `change` stands apart from it: a function clears, when it is
+/// entered, the locals of all calls that the compiler writes into it, and a call that changes nothing shouldn't pay for
+/// those of one that does.
+fn perform(alloc: Global, rows: &mut Rows, tables: &mut Tables, call: &CheckedCall) -> Answer
+    requires built { IsBuilt (call_of call.now) }
+    requires stands { (w : World) × StandsFor rows.old tables.old w }
+    ensures reply { (w : World) → StandsFor rows.old tables.old w
+        → IfAnswered result (λ reply. reply ≡ (step w (call_of call.now)).reply) }
+    ensures stands { (w : World) → StandsFor rows.old tables.old w
+        → IfAnswered result (λ _. StandsFor rows.new tables.new (step w (call_of call.now)).world) }
+    ensures stays { (w : World) → StandsFor rows.old tables.old w
+        → IfNoMemory result (λ _. StandsFor rows.new tables.new w) }
+    ensures entered { IfNoMemory result (λ entered. entered ≡ false) }
+{
+    let Ok(judged) = judge(alloc, rows, tables, call) else {
+        return Answer::NoMemory { entered: false };
+    };
+    if judged.changes_nothing() {
+        return Answer::Answered(judged.reply);
+    }
+    match change(alloc, rows, tables, judged) {
+        Ok(reply) => Answer::Answered(reply),
+        Err(_) => Answer::NoMemory { entered: false },
+    }
+}
+
+/// What was judged of a call is done in the rows and the tables. Memory for all of it is taken first.
+#[inline(never)]
+fn change(
+    alloc: Global,
+    rows: &mut Rows,
+    tables: &mut Tables,
+    judged: Judged,
+) -> Result<Reply, AllocError>
+    requires judged { (w : World) × (call : Call) × (StandsFor rows.old tables.old w) × (IsJudged judged rows.old w call) }
+    requires placed { IsPlaced judged.patch tables.old.sessions.items }
+    requires ascending { IsStrictlySortedBy (slice_cmp nat_cmp) (keys_of judged.rows.items) }
+    ensures reply { IfOk result (λ reply. reply ≡ judged.reply) }
+    ensures stands { (w : World) (call : Call) → StandsFor rows.old tables.old w → IsJudged judged rows.old w call
+        → OnOk result (StandsFor rows.new tables.new (step w call).world) }
+    ensures stays { (w : World) → StandsFor rows.old tables.old w
+        → OnErr result (StandsFor rows.new tables.new w) }
+{
+    let reply = judged.reply;
+    let batch = judged.rows;
+    let patch = judged.patch;
+    make_room(tables, &patch)?;
+    let weight = weight_after(rows, tables.weight, &batch);
+    let added = rows.make_room(alloc, &batch)?;
+    drop(added);
+    let _ = rows.change_all(batch);
+    apply(tables, patch, weight);
+    Ok(reply)
 }

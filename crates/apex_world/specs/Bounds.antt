@@ -4,13 +4,13 @@ use Rattle.std.specs.List.{sum_by}
 use Rattle.std.specs.FinMap as fin
 use Rattle.apex_base.specs.declared.numbers.Scale.{Scale}
 use Rattle.apex_base.specs.declared.records.Record.{Record}
-use Rattle.apex_base.specs.Held.{is_undoable, is_available, examples}
+use Rattle.apex_base.specs.Held.{is_undoable, is_available, examples, is_staged}
 use Rattle.apex_base.specs.Members.{In}
 use Rattle.apex_base.specs.Numbers.{scale_modules, scale_file_weight, scale_data_weight, scale_units}
 use Rattle.apex_base.specs.Tables.{Table}
 use Rattle.apex_world.specs.Data.{data_weight}
 use Rattle.apex_world.specs.Limits.{units, weight}
-use Rattle.apex_world.specs.Rows.{undoes, is_staged}
+use Rattle.apex_base.specs.Commit.{undoes}
 use Rattle.apex_world.specs.World.{World, Contents}
 
 -- how many names such sessions have together

@@ -16,7 +16,7 @@ use Rattle.apex_base.specs.declared.records.Part.{Part}
 use Rattle.apex_base.specs.declared.records.Record.{Record}
 use Rattle.apex_base.specs.declared.records.Target.{Target}
 use Rattle.apex_base.specs.declared.records.Target.TheVariants as targets
-use Rattle.apex_base.specs.Commit.{rollback_id, rolls_back, target_version, part_before}
+use Rattle.apex_base.specs.Commit.{rollback_id, rolls_back, target_version, part_before, undoes, is_caller_id}
 use Rattle.apex_base.specs.Held.{is_unfinished, is_undoable, is_available, is_standing, is_success, kept, example, examples}
 use Rattle.apex_base.specs.Members.{each_pair}
 use Rattle.apex_base.specs.Modules.{FileMap}
@@ -33,10 +33,8 @@ use Rattle.apex_world.specs.Bounds.{name_count, can_be_undone, can_be_rolled_bac
 use Rattle.apex_world.specs.Data.{part_weight}
 use Rattle.apex_world.specs.Lawful.{ids_of, never_activated, has_cause, is_verified, part_at_place}
 use Rattle.apex_world.specs.Limits.{units, weight}
-use Rattle.apex_world.specs.Rows.{undoes}
 use Rattle.apex_world.specs.Selection.{submitted_by}
 use Rattle.apex_world.specs.Soundness.{checked, manifest_in}
-use Rattle.apex_world.specs.Submit.{is_caller_id}
 use Rattle.apex_world.specs.World.{World, Contents, boots}
 use Rattle.apex_base.specs.declared.records.State.TheVariants.{Activated}
 

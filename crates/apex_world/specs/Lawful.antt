@@ -9,7 +9,7 @@ use Rattle.apex_base.specs.declared.records.Record.{Record}
 use Rattle.apex_base.specs.declared.records.State.{State}
 use Rattle.apex_base.specs.declared.records.State.TheVariants as state
 use Rattle.apex_base.specs.declared.records.Target.TheVariants as targets
-use Rattle.apex_base.specs.Commit.{rollback_id, rolls_back, target_version, part_before}
+use Rattle.apex_base.specs.Commit.{rollback_id, rolls_back, target_version, part_before, undoes, is_caller_id}
 use Rattle.apex_base.specs.Held.{is_unfinished, is_undoable, is_available, is_standing, is_success, kept}
 use Rattle.apex_base.specs.Members.{In, EachPair}
 use Rattle.apex_base.specs.Modules.{FileMap, IsModule}
@@ -23,10 +23,8 @@ use Rattle.apex_world.specs.declared.calls.Image.{Image}
 use Rattle.apex_world.specs.declared.world.Submission.{Submission}
 use Rattle.apex_world.specs.Bounds.{IsWithinScale}
 use Rattle.apex_world.specs.Orders.{IsImage}
-use Rattle.apex_world.specs.Rows.{undoes}
 use Rattle.apex_world.specs.Selection.{submitted_by}
 use Rattle.apex_world.specs.Soundness.{checked}
-use Rattle.apex_world.specs.Submit.{is_caller_id}
 use Rattle.apex_world.specs.World.{World, Contents, boots}
 
 -- 0. Ranges: names are names, numbers are within their types

@@ -3,15 +3,11 @@ use Rattle.std.specs.Prelude.{ℕ, ◌==◌, ◌&&◌, Bool, true, false, not, L
 use Rattle.std.specs.Option.{option_map}
 use Rattle.std.specs.FinMap as fin
 use Rattle.apex_base.specs.declared.numbers.SessionId.{SessionId}
-use Rattle.apex_base.specs.declared.records.Kind.{Kind}
-use Rattle.apex_base.specs.declared.records.Kind.TheVariants.{RollbackOf}
 use Rattle.apex_base.specs.declared.records.Record.{Record}
 use Rattle.apex_base.specs.declared.records.RollbackState.{RollbackState}
 use Rattle.apex_base.specs.declared.records.RollbackState.TheVariants.{Enabling, Available, Committed, Deleted}
-use Rattle.apex_base.specs.declared.records.State.{State}
-use Rattle.apex_base.specs.declared.records.State.TheVariants as state
-use Rattle.apex_base.specs.Commit.{rollback_id, rolls_back}
-use Rattle.apex_base.specs.Held.{is_undoable, kept, is_target}
+use Rattle.apex_base.specs.Commit.{rollback_id, rolls_back, undoes}
+use Rattle.apex_base.specs.Held.{is_staged, is_undoable, kept, is_target}
 use Rattle.apex_base.specs.Keys.{Key, Boots, RecordOf, ActiveOf, BackupOf, FileOf, DataOf, SnapshotOf, PreRestoreOf, WatchOf, RowMap, rows_by}
 use Rattle.apex_base.specs.Reading.{four_text, eight_text}
 use Rattle.apex_base.specs.Sessions.{names, session_of}
@@ -62,10 +58,6 @@ data_row w name key = value_of w.contents name key
 
 -- 7. a value that a name had before a session that may be rolled back
 
-abbrev pub is_staged : State → Bool
-is_staged state.Staged = true
-is_staged _ = false
-
 abbrev pub is_staged_session : Option Record → Bool
 is_staged_session None = false
 is_staged_session (Some r) = is_staged r.state
@@ -89,10 +81,6 @@ abbrev pub snapshot_row : World → SessionId → List ℕ → List ℕ → Opti
 snapshot_row w id name key = option_and_then (λ r. if has_snapshot w.sessions r then earlier w name key r else None) (session_of w.sessions id)
 
 -- 8. a value that a name had before a rollback session that can still be undone
-
-abbrev pub undoes : Kind → Bool
-undoes (RollbackOf x) = true
-undoes _ = false
 
 abbrev pub has_pre_restore : Record → Bool
 has_pre_restore r = undoes r.kind && is_undoable r.state

@@ -17,6 +17,7 @@ use Rattle.apex_base.specs.declared.records.State.TheVariants as state
 use Rattle.apex_base.specs.declared.records.Target.TheVariants as targets
 use Rattle.apex_base.specs.declared.refusal.Refusal.{Refusal}
 use Rattle.apex_base.specs.declared.refusal.Refusal.TheVariants.{IdRange, IdTaken, Parts, Module, TwiceNamed, NotPreinstalled, KeyDiffers, Overlap, Downgrade, SessionsFull, StoreFull}
+use Rattle.apex_base.specs.Commit.{is_caller_id}
 use Rattle.apex_base.specs.Held.{is_unfinished}
 use Rattle.apex_base.specs.Modules.{FileMap}
 use Rattle.apex_base.specs.Numbers.{scale_units, scale_file_weight}
@@ -33,9 +34,6 @@ use Rattle.apex_world.specs.World.{World, empty_world}
 use Rattle.apex_base.specs.declared.numbers.Scale.TheVariants.{Small}
 
 -- 1. the first id that no caller may give
-
-abbrev pub is_caller_id : SessionId → Bool
-is_caller_id id = nat_le 1 id.0 && nat_le id.0 1073741823
 
 abbrev pub id_range : List SessionId → Option Refusal
 id_range [] = None

@@ -6,11 +6,11 @@ use Rattle.std.specs.FinMap.{len-entries, len-empty}
 use Rattle.apex_base.specs.declared.numbers.Scale.{Scale}
 use Rattle.apex_base.specs.Keys.{Key, Boots, DataOf, WatchOf, RowMap, rows_by}
 use Rattle.apex_base.specs.Tables.{NameMap}
-use Rattle.apex_core.specs.Core.{IsStored}
+use Rattle.stored_world.specs.Stored.{IsStored}
 use Rattle.apex_world.specs.Rows.{rows, row_at, table_keys}
 use Rattle.apex_world.specs.World.{empty_world}
-use Rattle.apex_world.proofs.EmptyLemmas.{empty_lawful}
-use Rattle.apex_world.proofs.PlainLemmas.{empty_plain}
+use Rattle.world_facts.proofs.facts.EmptyLemmas.{empty_lawful}
+use Rattle.world_facts.proofs.facts.PlainLemmas.{empty_plain}
 
 nil_of : {X : Type 0} (xs : List X) → length xs ≡ 0 → xs ≡ []
 nil_of [] e = refl

@@ -3,9 +3,9 @@ use Rattle.std.proofs.Common.{IsTrue, arith}
 use Rattle.apex_base.specs.Ranges.{IsMillis}
 use Rattle.apex_base.specs.Text.{is_print}
 use Rattle.apex_world.specs.declared.calls.BootOrder.{BootOrder}
-use Rattle.apex_world.specs.Invariance.{IsOrderOf}
+use Rattle.world_laws.specs.Invariance.{IsOrderOf}
 use Rattle.apex_world.specs.World.{World}
-use Rattle.apex_core.specs.Refused.{IsAnOrder}
+use Rattle.boot_recover.specs.Refused.{IsAnOrder}
 use Rattle.device_play.specs.Events.{CanBoot}
 
 pub order_of : (w : World) (order : BootOrder) → IsTrue (is_print order.image.print) → IsMillis order.time

@@ -4,11 +4,11 @@ use Rattle.std.specs.FinMap as fin
 use Rattle.apex_base.specs.Keys.{Key, Boots, RecordOf, ActiveOf, BackupOf, FileOf, DataOf, SnapshotOf, PreRestoreOf}
 use Rattle.apex_base.specs.Keys.{WatchOf, RowMap, key_text}
 use Rattle.apex_base.proofs.RowMaps.{rows_found}
-use Rattle.apex_core.specs.Core.{IsStored}
+use Rattle.stored_world.specs.Stored.{IsStored}
 use Rattle.apex_world.specs.Lawful.{Lawful}
 use Rattle.apex_world.specs.Rows.{row_at, row_keys, rows}
 use Rattle.apex_world.specs.World.{World}
-use Rattle.apex_world.proofs.WorldRows.{world_keys}
+use Rattle.world_facts.proofs.facts.WorldRows.{world_keys}
 
 has_text : (t : Key) → [] ≡ key_text t → ⊥
 has_text Boots e = absurd (cc e)

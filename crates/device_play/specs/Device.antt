@@ -1,5 +1,6 @@
 -- Which worlds a device may be of: docs/rows.md, "A core".
-use Rattle.apex_core.specs.Core.{IsStored, StandsFor}
+use Rattle.call_judge.specs.Stands.{StandsFor}
+use Rattle.stored_world.specs.Stored.{IsStored}
 use Rattle.apex_world.specs.World.{World}
 use Rattle.device_play.specs.declared.device.Device.{Device}
 use Rattle.device_play.specs.declared.device.Device.TheVariants.{Off, On}

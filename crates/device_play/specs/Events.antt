@@ -1,6 +1,6 @@
 -- What can happen to a world.
 use Rattle.std.specs.Prelude.{◌≡◌}
-use Rattle.apex_core.specs.Refused.{HasBootsLeft}
+use Rattle.boot_recover.specs.Refused.{HasBootsLeft}
 use Rattle.apex_world.specs.declared.calls.BootOrder.{BootOrder}
 use Rattle.apex_world.specs.Fold.{Event, BootOf, CallOf}
 use Rattle.apex_world.specs.Orders.{IsOrder}

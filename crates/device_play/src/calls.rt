@@ -5,8 +5,8 @@ ghost use Rattle.apex_world.specs.Calls.{call_at};
 ghost use Rattle.apex_world.specs.Playable.{IsBuilt};
 
 use apex_base::SessionId;
-use apex_core::Prepared;
 use apex_world::{CallRef, SharedModule};
+use call_judge::Prepared;
 use std::alloc::Global;
 
 /// A call of a script, prepared. No file of its modules is copied.

@@ -3,8 +3,9 @@ ghost use Rattle.std.specs.Prelude.{◌≡◌, [], IfOk, IsSomeAnd, OnOk, IsTrue
 ghost use Rattle.std.specs.Option.{ForSome};
 ghost use Rattle.apex_base.specs.Ranges.{IsMillis};
 ghost use Rattle.apex_base.specs.Text.{is_print};
-ghost use Rattle.apex_core.specs.Core.{IsStored, StandsFor};
-ghost use Rattle.apex_core.specs.Prepared.{IfAnswered, IfNoMemory};
+ghost use Rattle.call_judge.specs.Stands.{StandsFor};
+ghost use Rattle.stored_world.specs.Stored.{IsStored};
+ghost use Rattle.apex_core.specs.Core.{IfAnswered, IfNoMemory};
 ghost use Rattle.apex_world.specs.Boot.{boot_reply, boot_world};
 ghost use Rattle.apex_world.specs.Playable.{IsBuilt};
 ghost use Rattle.apex_world.specs.Step.{step};
@@ -13,8 +14,9 @@ ghost use Rattle.device_play.specs.Device.{IsDeviceOf, IsOn};
 ghost use Rattle.device_play.specs.Events.{CanBoot};
 
 use apex_base::{Mounter, Scale, Why};
-use apex_core::{Answer, Core, Prepared};
+use apex_core::{Answer, Core};
 use apex_world::{BootOrder, BootReply, TurnRow};
+use call_judge::Prepared;
 use row_map::Rows;
 use std::alloc::{AllocError, Global};
 use std::mem;

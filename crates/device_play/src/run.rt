@@ -18,7 +18,7 @@ pub struct Run {
 impl Run {
     ghost use Rattle.std.specs.Prelude.{◌≡◌, ◌<◌, ◌+◌, ◌++◌, ◌^◌, ◌∷◌, [], IfOk, OnErr, OnOk, vec_capacity, vec_len};
     ghost use Rattle.apex_base.specs.declared.numbers.Scale.{Scale};
-    ghost use Rattle.apex_core.specs.Prepared.{IfAnswered, IfNoMemory};
+    ghost use Rattle.apex_core.specs.Core.{IfAnswered, IfNoMemory};
     ghost use Rattle.apex_world.specs.declared.turns.Shown.TheVariants.{Booted, Replied};
     ghost use Rattle.apex_world.specs.Calls.{call_at};
     ghost use Rattle.apex_world.specs.Fold.{BootOf, CallOf, turned_by};

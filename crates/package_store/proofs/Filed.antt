@@ -15,7 +15,7 @@ use Rattle.apex_base.specs.RowSums.{module_at}
 use Rattle.apex_base.proofs.Maps.{empty_module}
 use Rattle.apex_base.proofs.RowMaps.{same_names, in_ends, tabulated}
 use Rattle.row_map.specs.Rows.{shown, rows_of}
-use Rattle.package_store.specs.Placed.{path_in}
+use Rattle.row_key.specs.Files.{path_in}
 use Rattle.package_store.proofs.FilesRead.{HasPaths, Filed, files_in, file_found, begins}
 use Rattle.package_store.proofs.Fronts.{path_there, key_of_path}
 use Rattle.package_store.proofs.Maps.{ascending}

@@ -13,7 +13,7 @@ use Rattle.std.specs.declared.cmp.Ordering.{Ordering}
 use Rattle.std.specs.declared.cmp.Ordering.TheVariants.{Less, Equal, Greater}
 use Rattle.apex_base.specs.declared.numbers.SessionId.{SessionId}
 use Rattle.apex_base.specs.Keys.{file_front}
-use Rattle.package_store.specs.Placed.{path_in}
+use Rattle.row_key.specs.Files.{path_in}
 use Rattle.package_store.proofs.Maps.{same_key}
 
 some_is : {A : Type 0} (x y : A) → Some x ≡ Some y → x ≡ y

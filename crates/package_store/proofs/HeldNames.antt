@@ -24,7 +24,7 @@ use Rattle.apex_base.proofs.Finding.{is_there}
 use Rattle.apex_base.proofs.MemberLemmas.{each_in, in_each, any_in, in_any}
 use Rattle.apex_base.proofs.RowMaps.{entry_found}
 use Rattle.package_store.specs.Latest.{Best, best_of, AreHeld}
-use Rattle.package_store.specs.Settled.{HasPart}
+use Rattle.session_record.specs.Room.{HasPartNumber}
 
 pub both_ways : (a b : Bool) → (a ≡ true → b ≡ true) → (b ≡ true → a ≡ true) → a ≡ b
 both_ways true b f g = sym (f refl)
@@ -59,10 +59,10 @@ lists records held are up = record {
 
 -- where each target that is found has a part of one byte, so have those of the entries
 pub have_parts : (held : BTreeMap (List ℕ) Best) → tree.IsOrdered (slice_cmp nat_cmp) held
-    → ((name : List ℕ) → HasPart (target_of (tree.get (slice_cmp nat_cmp) held name)))
-    → AllByRecursion (λ (e : List ℕ × Best). HasPart e.1.1) held.entries
-have_parts held up parts = in_each (λ (e : List ℕ × Best). HasPart e.1.1) held.entries
-    (λ e there. subst (λ (best : Option Best). HasPart (target_of best)) (entry_get held up e there) (parts e.0))
+    → ((name : List ℕ) → HasPartNumber (target_of (tree.get (slice_cmp nat_cmp) held name)))
+    → AllByRecursion (λ (e : List ℕ × Best). HasPartNumber e.1.1) held.entries
+have_parts held up parts = in_each (λ (e : List ℕ × Best). HasPartNumber e.1.1) held.entries
+    (λ e there. subst (λ (best : Option Best). HasPartNumber (target_of best)) (entry_get held up e there) (parts e.0))
 
 -- ---- a name holds something if and only if a session that stands names it
 

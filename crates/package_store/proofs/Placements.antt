@@ -22,7 +22,8 @@ use Rattle.apex_base.proofs.RowMaps.{same_bytes, entry_get}
 use Rattle.row_codec.specs.Batch.{IsRow}
 use Rattle.row_codec.specs.Batch as batch
 use Rattle.row_map.specs.Rows.{changed}
-use Rattle.package_store.specs.Placed.{file_change, file_changes, path_in, file_at, or_before, placed_value}
+use Rattle.row_key.specs.Files.{path_in}
+use Rattle.package_store.specs.Placed.{file_change, file_changes, file_at, or_before, placed_value}
 use Rattle.package_store.proofs.Fronts.{file_cmp, same_path, path_there, key_of_path}
 use Rattle.package_store.proofs.Maps.{same_key, at_insert, not_below}
 

@@ -1,11 +1,11 @@
 -- The rows of a module's files: docs/rows.md, tag 5.
-use Rattle.std.specs.Prelude.{ℕ, List, [], take, drop, map, Option, Some, None, if◌then◌else◌}
-use Rattle.std.specs.Str.{bytes_eq}
+use Rattle.std.specs.Prelude.{ℕ, List, map, Option, Some, None}
 use Rattle.std.specs.FinMap as fin
 use Rattle.apex_base.specs.declared.numbers.SessionId.{SessionId}
 use Rattle.apex_base.specs.Keys.{RowMap, file_front}
 use Rattle.apex_base.specs.Modules.{FileMap}
 use Rattle.row_codec.specs.declared.batch.Row.{Row}
+use Rattle.row_key.specs.Files.{path_in}
 
 -- a file is written under its path
 abbrev pub file_change : SessionId → ℕ → List ℕ × List ℕ → Row
@@ -14,10 +14,6 @@ file_change session part file = record { key = file_front session part file.0; v
 -- all files of the module that this part of a session submitted are written, ascending by path
 abbrev pub file_changes : SessionId → ℕ → FileMap → List Row
 file_changes session part files = map (file_change session part) (fin.entries files)
-
--- the path of a key, if it is that of a file of this part of a session
-abbrev pub path_in : SessionId → ℕ → List ℕ → Option (List ℕ)
-path_in session part key = if bytes_eq (take 6 key) (file_front session part []) then Some (drop 6 key) else None
 
 -- the file of the module that stands under a key
 abbrev pub file_at : FileMap → Option (List ℕ) → Option (List ℕ)

@@ -1,16 +1,16 @@
 -- What rows come to once they are settled by the records of all sessions: docs/rows.md, tags 3 to 5.
-use Rattle.std.specs.Prelude.{ℕ, ◌≢◌, ◌<◌, ◌==◌, Bool, true, List, [], ◌∷◌, Option, None}
+use Rattle.std.specs.Prelude.{ℕ, ◌≢◌, ◌==◌, Bool, true, List, [], ◌∷◌, Option, None}
 use Rattle.std.specs.Prelude.{if◌then◌else◌}
 use Rattle.std.specs.Int.{w32, from_be_bytes}
 use Rattle.std.specs.List.{AllByRecursion}
 use Rattle.std.specs.FinMap as fin
 use Rattle.apex_base.specs.declared.records.Record.{Record}
 use Rattle.apex_base.specs.declared.records.Target.{Target}
-use Rattle.apex_base.specs.declared.records.Target.TheVariants as targets
 use Rattle.apex_base.specs.Held.{kept, is_target}
 use Rattle.apex_base.specs.Keys.{Key, ActiveOf, BackupOf, FileOf, RowMap, file_front, key_text}
 use Rattle.apex_base.specs.Settled.{active_of, backup_of}
 use Rattle.row_codec.specs.declared.batch.Row.{Row}
+use Rattle.session_record.specs.Room.{HasPartNumber}
 
 -- A file's key has the id of the session in four bytes, and the part. Its module is among these targets; what is
 -- shorter is no file's key, and stays.
@@ -43,10 +43,6 @@ settled_row rows records key = fin.get rows (key_text key)
 abbrev pub IsChange : RowMap → Row → Type 0
 IsChange rows change = fin.get rows change.key ≢ change.value
 
--- a target whose part has a number of one byte
-abbrev pub HasPart : Target → Type 0
-HasPart targets.Preinstalled = Unit {0}
-HasPart (targets.Module session part version) = part < 256
-
+-- the number of each target's part has one byte
 abbrev pub HaveParts : List Record → Type 0
-HaveParts records = AllByRecursion (λ r. AllByRecursion (λ p. HasPart p.target) r.parts) records
+HaveParts records = AllByRecursion (λ r. AllByRecursion (λ p. HasPartNumber p.target) r.parts) records

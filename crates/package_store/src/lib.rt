@@ -5,7 +5,6 @@ mod changes;
 mod earlier;
 mod held;
 mod kept;
-mod key;
 mod laws;
 mod naming;
 mod placing;
@@ -17,9 +16,8 @@ mod weight;
 
 pub use held::{HeldByName, held_by_name, target_of_name};
 pub use kept::KeptParts;
-pub use key::{file_front, has_tag};
 pub use laws::{rows_are_those_shown, settled_by_key};
 pub use placing::put;
-pub use reading::{module_of, path_in};
+pub use reading::module_of;
 pub use settling::{settle, settle_held};
 pub use weight::kept_weight;

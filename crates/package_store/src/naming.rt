@@ -9,14 +9,15 @@ ghost use Rattle.apex_base.specs.Held.{target_of};
 ghost use Rattle.package_store.specs.Earlier.{AreEarlier, AreEnough};
 ghost use Rattle.package_store.specs.Latest.{AreHeld};
 ghost use Rattle.package_store.specs.Named.{note_active, note_held, note_backup, note_backups};
-ghost use Rattle.package_store.specs.Settled.{HasPart, HaveParts, settled};
+ghost use Rattle.session_record.specs.Room.{HasPartNumber};
+ghost use Rattle.package_store.specs.Settled.{HaveParts, settled};
 ghost use Rattle.package_store.specs.Spelled.{change_to};
 
 use crate::changes::Changes;
 use crate::earlier::EarlierTargets;
 use crate::held::HeldByName;
-use crate::key::{ACTIVE, BACKUP, name_key, target_row};
 use apex_base::{Name, Record, Target};
+use row_key::{ACTIVE, BACKUP, name_key, target_row};
 use std::alloc::{AllocError, Global};
 
 /// What all sessions call for. It goes over them once, and looks up what names held.
@@ -43,7 +44,7 @@ pub(crate) fn name_changes(
 
 /// What names hold.
 fn active_changes(alloc: Global, held: &HeldByName) -> Result<Changes, AllocError>
-    requires { (name : List ℕ) → HasPart (target_of (tree.get (slice_cmp nat_cmp) held.now name)) }
+    requires { (name : List ℕ) → HasPartNumber (target_of (tree.get (slice_cmp nat_cmp) held.now name)) }
     ensures noted { IfOk result (λ changes. (key : List ℕ)
         → fin.get changes key ≡ note_held held.now.entries key) }
     ensures ordered { tree.IsOrdered (slice_cmp nat_cmp) held.now }
@@ -61,7 +62,7 @@ fn add_active(
     name: &Name,
     target: Target,
 ) -> Result<(), AllocError>
-    requires { HasPart target }
+    requires { HasPartNumber target }
     ensures { OnOk result ((key : List ℕ)
         → fin.get changes.new key ≡ note_active name.now target key (fin.get changes.old key)) }
 {

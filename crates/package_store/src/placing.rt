@@ -10,9 +10,9 @@ ghost use Rattle.row_codec.specs.Batch.{IsRow, keys_of};
 ghost use Rattle.row_map.specs.Rows.{changed};
 ghost use Rattle.package_store.specs.Placed.{file_change, file_changes, placed_value};
 
-use crate::key::file_key;
 use apex_base::{Bytes, FilePath, Listed, Module, SessionId};
 use row_codec::Row;
+use row_key::file_key;
 use std::alloc::{AllocError, Global};
 
 /// The rows of the module that this part of a session submitted: one for each file.

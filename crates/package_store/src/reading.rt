@@ -1,14 +1,13 @@
 //! Reading a module.
-ghost use Rattle.std.specs.Prelude.{◌≡◌, IfOk, IsTrue, None, OnOk, option_map};
+ghost use Rattle.std.specs.Prelude.{◌≡◌, IfOk, IsTrue, None, OnOk};
 ghost use Rattle.std.specs.FinMap as fin;
 ghost use Rattle.apex_base.specs.Modules.{IsModule, put_fault};
 ghost use Rattle.apex_base.specs.RowSums.{module_at};
 ghost use Rattle.apex_base.specs.Text.{is_path};
 ghost use Rattle.row_map.specs.Rows.{rows_of};
-ghost use Rattle.package_store.specs.Placed.{path_in};
 
-use crate::key::FILE;
 use apex_base::{Bytes, FilePath, Module, PutWhy, SessionId};
+use row_key::path_in;
 use std::alloc::{AllocError, Global};
 use std::collections::BTreeMap;
 
@@ -29,22 +28,6 @@ pub fn module_of(
         }
     }
     Ok(files)
-}
-
-/// The path in the key of a file, if it is one of the module that this part of a session submitted; None for each other
-/// key.
-pub fn path_in(session: SessionId, part: u32, key: &[u8]) -> Option<&[u8]>
-    ensures { option_map (λ path. path.now) result ≡ path_in session part key.now }
-{
-    let Some((front, path)) = key.split_first_chunk::<6>() else {
-        return None;
-    };
-    let [tag, a, b, c, d, number] = *front;
-    if tag == FILE && [a, b, c, d] == session.0.to_be_bytes() && u32::from(number) == part {
-        Some(path)
-    } else {
-        None
-    }
 }
 
 /// Puts a file that can be put.

@@ -17,10 +17,10 @@ use crate::changes::Changes;
 use crate::earlier::EarlierTargets;
 use crate::held::{HeldByName, held_by_name};
 use crate::kept::KeptParts;
-use crate::key::{ACTIVE, BACKUP, FILE};
 use crate::naming::name_changes;
-use apex_base::{Bytes, Record, SessionId};
+use apex_base::{Bytes, Record};
 use row_codec::Row;
+use row_key::{ACTIVE, BACKUP, FILE, file_at};
 use std::alloc::{AllocError, Global};
 use std::collections::BTreeMap;
 
@@ -119,11 +119,8 @@ fn settle_name(
 fn file_stays(kept: &KeptParts, rest: &[u8]) -> bool
     ensures { result ≡ stays_among kept.now rest.now }
 {
-    match rest {
-        [a, b, c, d, part, ..] => {
-            let session = SessionId(u32::from_be_bytes([*a, *b, *c, *d]));
-            kept.has(session, u32::from(*part))
-        }
-        _ => true,
+    match file_at(rest) {
+        Some(file) => kept.has(file.session, file.part),
+        None => true,
     }
 }

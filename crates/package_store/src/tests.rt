@@ -1,7 +1,7 @@
 //! What no clause says: that the calls succeed, and the bytes of `docs/rows.md`.
 ghost use Rattle.std.specs.Prelude.{IfOk};
 ghost use Rattle.std.specs.List.{AllByRecursion};
-ghost use Rattle.package_store.specs.Settled.{HasPart};
+ghost use Rattle.session_record.specs.Room.{HasPartNumber};
 
 use super::*;
 use apex_base::{
@@ -54,7 +54,7 @@ fn no_rows_are_a_module_without_files(rt: HostRuntime) -> Result<(), Fail> {
 
 /// A session that submitted version 2 of `a`.
 fn session_of_a(alloc: Global, id: u32, state: State, activation: u32) -> Result<Record, Fail>
-    ensures { IfOk result (λ r. AllByRecursion (λ p. HasPart p.target) r.parts) }
+    ensures { IfOk result (λ r. AllByRecursion (λ p. HasPartNumber p.target) r.parts) }
 {
     let name = Name::read(b"a").ok_or("it is a name")?;
     let print = Print::read(b"P").ok_or("it is a fingerprint")?;

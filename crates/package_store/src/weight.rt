@@ -3,8 +3,8 @@ ghost use Rattle.std.specs.Prelude.{◌≡◌, ◌<◌, ◌^◌};
 ghost use Rattle.apex_base.specs.RowSums.{kept_weight, file_row_weight};
 ghost use Rattle.row_map.specs.Rows.{rows_of};
 
-use crate::key::{FILE, has_tag};
 use apex_base::Bytes;
+use row_key::{FILE, has_tag};
 use std::collections::BTreeMap;
 
 /// The sum of the weights of the files that are kept. It takes no memory.

@@ -14,8 +14,8 @@ use Rattle.apex_base.specs.Members.{In}
 use Rattle.apex_base.specs.Sessions.{names, session_of, Ascend}
 use Rattle.apex_base.proofs.MemberLemmas.{in_any}
 use Rattle.apex_base.proofs.SessionLemmas.{of_in}
-use Rattle.apex_world.proofs.DecidedTests.{itself}
-use Rattle.apex_world.proofs.LatestLemmas.{part_for, names_part, named_by, IsLatest, latest_is}
+use Rattle.world_facts.proofs.facts.DecidedTests.{itself}
+use Rattle.world_facts.proofs.facts.LatestLemmas.{part_for, names_part, named_by, IsLatest, latest_is}
 use Rattle.session_check.specs.declared.marks.Mark.{Mark}
 use Rattle.session_check.specs.declared.marks.Which.TheVariants.{Succeeded}
 use Rattle.session_check.specs.Before.{AreDated, target_in, target_of_part}

@@ -11,7 +11,7 @@ use Rattle.apex_base.specs.Held.{is_standing, is_undoable}
 use Rattle.apex_base.specs.Members.{In}
 use Rattle.apex_base.specs.Sessions.{names}
 use Rattle.apex_base.proofs.MemberLemmas.{any_in, in_any}
-use Rattle.apex_world.proofs.DecidedTests.{itself, every, implies_decides}
+use Rattle.world_facts.proofs.facts.DecidedTests.{itself, every, implies_decides}
 use Rattle.session_check.specs.declared.marks.Mark.{Mark}
 use Rattle.session_check.specs.declared.marks.Which.TheVariants.{Standing}
 use Rattle.session_check.specs.Before.{is_above, StandLast}

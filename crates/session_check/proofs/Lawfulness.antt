@@ -13,13 +13,12 @@ use Rattle.apex_base.specs.Members.{In}
 use Rattle.apex_base.specs.Sessions.{names, Ascend}
 use Rattle.apex_world.specs.Decided.{is_zero, is_after_undone, have_rollback_sessions}
 use Rattle.apex_world.specs.Lawful.{ids_of, HasParts, HasActivation, has_cause, HasRollback, never_activated}
-use Rattle.apex_world.specs.Rows.{undoes}
-use Rattle.apex_world.specs.Submit.{is_caller_id}
-use Rattle.apex_world.proofs.DecidedIds.{parts_decide, caller_ids_decide}
-use Rattle.apex_world.proofs.DecidedPeers.{activation_decides, after_decides, cause_decides, rollback_decides, IsAfter}
-use Rattle.apex_world.proofs.DecidedRollbacks.{undone_decide}
-use Rattle.apex_world.proofs.DecidedTests.{every}
-use Rattle.apex_world.proofs.KeptLemmas.{stands_activated, success_stands, undoable_stands}
+use Rattle.apex_base.specs.Commit.{undoes, is_caller_id}
+use Rattle.world_facts.proofs.facts.DecidedIds.{parts_decide, caller_ids_decide}
+use Rattle.world_facts.proofs.facts.DecidedPeers.{activation_decides, after_decides, cause_decides, rollback_decides, IsAfter}
+use Rattle.world_facts.proofs.facts.DecidedRollbacks.{undone_decide}
+use Rattle.world_facts.proofs.facts.DecidedTests.{every}
+use Rattle.world_facts.proofs.facts.KeptLemmas.{stands_activated, success_stands, undoable_stands}
 use Rattle.session_check.specs.declared.marks.Which.TheVariants.{Unfinished, Available, Activated}
 use Rattle.session_check.specs.declared.marks.Mark.{Mark}
 use Rattle.session_check.specs.Apart.{AreApart}

@@ -11,8 +11,8 @@ use Rattle.apex_base.specs.Members.{In, EachPair}
 use Rattle.apex_base.specs.Sessions.{has_id, names, Ascend}
 use Rattle.apex_base.proofs.MemberLemmas.{any_in, in_any, in_map, in_map_back, each_in, in_each}
 use Rattle.apex_world.specs.Lawful.{ids_of}
-use Rattle.apex_world.proofs.DecidedIds.{pair_among, pairs_by}
-use Rattle.apex_world.proofs.NewIds.{has_in, in_has}
+use Rattle.world_facts.proofs.facts.DecidedIds.{pair_among, pairs_by}
+use Rattle.world_facts.proofs.facts.NewIds.{has_in, in_has}
 use Rattle.session_check.specs.declared.marks.Mark.{Mark}
 use Rattle.session_check.specs.declared.marks.Which.{Which}
 use Rattle.session_check.specs.Marks.{counts, mark_of, marks_of, id_numbers}

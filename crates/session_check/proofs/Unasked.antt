@@ -10,8 +10,8 @@ use Rattle.apex_base.specs.Held.{is_undoable}
 use Rattle.apex_base.specs.Members.{In}
 use Rattle.apex_base.proofs.MemberLemmas.{in_any}
 use Rattle.apex_world.specs.Decided.{has_undone}
-use Rattle.apex_world.specs.Rows.{undoes}
-use Rattle.apex_world.proofs.DecidedTests.{itself, every}
+use Rattle.apex_base.specs.Commit.{undoes}
+use Rattle.world_facts.proofs.facts.DecidedTests.{itself, every}
 use Rattle.session_check.specs.Before.{StandLast}
 
 -- where no element passes a test, one that does is not there

@@ -1,9 +1,8 @@
 //! What names held before a session was activated, and which session was activated last.
-ghost use Rattle.std.specs.Prelude.{◌≡◌, not, find};
+ghost use Rattle.std.specs.Prelude.{◌≡◌, not};
 ghost use Rattle.std.specs.List.{list_all, list_any};
 ghost use Rattle.std.specs.List.Sorted.{IsSorted};
 ghost use Rattle.std.specs.Option.{option_copied};
-ghost use Rattle.std.specs.Str.{bytes_eq};
 ghost use Rattle.apex_base.specs.Held.{before, is_undoable};
 ghost use Rattle.session_check.specs.declared.marks.Which.TheVariants.{Succeeded};
 ghost use Rattle.session_check.specs.Before.{AreDated, target_of_part, target_in, is_above};
@@ -11,7 +10,7 @@ ghost use Rattle.session_check.specs.Marks.{mark_cmp, has_later, AreMarks};
 
 use crate::marks::Mark;
 use crate::search::{has_later, last_before};
-use apex_base::{Name, Part, Record, Target, session_of};
+use apex_base::{Name, Part, Record, Target, part_of, session_of};
 
 /// The target that a name held before a session was activated, by the marks of those that succeeded.
 pub(crate) fn before(sessions: &[Record], marks: &[Mark], x: &Record, name: &Name) -> Target
@@ -41,12 +40,6 @@ fn target_of(p: Option<&Part>) -> Target
         None => Target::Preinstalled,
         Some(p) => p.target,
     }
-}
-
-fn part_of<'a>(parts: &'a [Part], name: &Name) -> Option<&'a Part>
-    ensures { option_copied result ≡ find (λ p. bytes_eq p.name name.now) parts.now }
-{
-    parts.iter().find(|p| p.name.is_same(name))
 }
 
 /// Whether a session can be undone.

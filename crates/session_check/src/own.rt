@@ -1,18 +1,16 @@
 //! What each session has to say by itself.
-ghost use Rattle.std.specs.Prelude.{◌≡◌, ◌+◌, ◌<◌, ◌≤◌, ◌^◌, not, length, map};
+ghost use Rattle.std.specs.Prelude.{◌≡◌, ◌+◌, ◌<◌, ◌≤◌, ◌^◌, not, length};
 ghost use Rattle.std.specs.List.{list_all};
 ghost use Rattle.std.specs.Str.{bytes_eq};
-ghost use Rattle.apex_base.specs.Commit.{rolls_back, target_version};
+ghost use Rattle.apex_base.specs.Commit.{target_version, is_caller_id};
 ghost use Rattle.apex_base.specs.Members.{each_pair};
 ghost use Rattle.apex_base.specs.Rollbacks.{is_enabling, is_committed};
 ghost use Rattle.apex_world.specs.Decided.{is_same_version, is_own, are_own, has_count, has_parts, has_activation};
 ghost use Rattle.apex_world.specs.Decided.{has_its_cause, has_rollback, has_caller_ids};
 ghost use Rattle.apex_world.specs.Lawful.{never_activated, has_cause};
-ghost use Rattle.apex_world.specs.Rows.{undoes};
-ghost use Rattle.apex_world.specs.Submit.{is_caller_id};
 ghost use Rattle.session_check.specs.Sound.{is_sound};
 
-use apex_base::{Kind, Part, Record, RollbackState, SessionId, State, Target, Version};
+use apex_base::{Part, Record, RollbackState, SessionId, State, Target, Version};
 
 /// Whether each session is sound by itself.
 pub(crate) fn are_sound(sessions: &[Record], boots: u32) -> bool
@@ -40,7 +38,7 @@ fn has_parts(r: &Record) -> bool
     has_count(r)
         && parts.len() <= 16
         && have_own_names(parts)
-        && (undoes(r.kind) || are_own(r.id, 0, parts))
+        && (r.kind.undoes() || are_own(r.id, 0, parts))
         && have_versions(parts)
 }
 
@@ -65,13 +63,6 @@ fn is_name_new(p: &Part, others: &[Part]) -> bool
     ensures { result ≡ list_all (λ q. not (bytes_eq p.now.name q.name)) others.now }
 {
     others.iter().all(|q| !p.name.is_same(&q.name))
-}
-
-/// Whether this is the kind of a rollback's session.
-pub(crate) fn undoes(kind: Kind) -> bool
-    ensures { result ≡ undoes kind }
-{
-    matches!(kind, Kind::RollbackOf(_))
 }
 
 fn are_own(id: SessionId, first: u32, parts: &[Part]) -> bool
@@ -161,16 +152,10 @@ fn has_rollback(r: &Record) -> bool
     let none_yet = r.moment.number() == 0;
     let enabling = is_enabling(r.rollback);
     let ready = RollbackState::is_available(r.rollback) || is_committed(r.rollback);
-    rolls_back(r.kind) == r.rollback.is_some()
+    r.kind.rolls_back() == r.rollback.is_some()
         && (!enabling || r.state.is_unfinished() && none_yet)
         && (!ready || r.state.is_success())
         && (r.rollback.is_some() || none_yet)
-}
-
-fn rolls_back(kind: Kind) -> bool
-    ensures { result ≡ rolls_back kind }
-{
-    matches!(kind, Kind::WithRollback)
 }
 
 fn is_enabling(rollback: Option<RollbackState>) -> bool
@@ -191,17 +176,11 @@ pub(crate) fn is_committed(rollback: Option<RollbackState>) -> bool
 fn has_caller_ids(r: &Record) -> bool
     ensures { result ≡ has_caller_ids r.now }
 {
-    undoes(r.kind) || is_caller_id(r.id) && are_caller_ids(r.children.as_slice())
+    r.kind.undoes() || r.id.is_caller_id() && are_caller_ids(r.children.as_slice())
 }
 
 fn are_caller_ids(ids: &[SessionId]) -> bool
     ensures { result ≡ list_all is_caller_id ids.now }
 {
-    ids.iter().all(|id| is_caller_id(*id))
-}
-
-fn is_caller_id(id: SessionId) -> bool
-    ensures { result ≡ is_caller_id id }
-{
-    id.0 >= 1 && id.0 <= 1073741823
+    ids.iter().all(|id| id.is_caller_id())
 }

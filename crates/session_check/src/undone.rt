@@ -1,16 +1,15 @@
 //! The sessions of rollbacks: which session each takes back, and that it is what that rollback makes.
-ghost use Rattle.std.specs.Prelude.{◌≡◌, ◌+◌, map};
+ghost use Rattle.std.specs.Prelude.{◌≡◌, map};
 ghost use Rattle.std.specs.Cmp.Lexicographic.{pointwise};
 ghost use Rattle.std.specs.List.{list_all, list_any};
 ghost use Rattle.std.specs.Option.{option_copied};
-ghost use Rattle.apex_base.specs.Commit.{rollback_id, part_before};
+ghost use Rattle.apex_base.specs.Commit.{rollback_id, part_before, undoes};
 ghost use Rattle.apex_base.specs.Rollbacks.{is_committed};
 ghost use Rattle.apex_base.specs.Sessions.{session_of, Ascend};
 ghost use Rattle.apex_world.specs.Decided.{implies, is_same_id, is_same_target, is_same_part, is_before_boot};
 ghost use Rattle.apex_world.specs.Decided.{is_after_undone};
 ghost use Rattle.apex_world.specs.Decided.{is_rollback_session, has_undone, undoes_it};
 ghost use Rattle.apex_world.specs.Lawful.{is_verified};
-ghost use Rattle.apex_world.specs.Rows.{undoes};
 ghost use Rattle.apex_base.specs.declared.records.Target.TheVariants.{Module};
 ghost use Rattle.session_check.specs.declared.marks.Which.TheVariants.{Succeeded};
 ghost use Rattle.session_check.specs.Before.{AreDated};
@@ -18,7 +17,7 @@ ghost use Rattle.session_check.specs.Marks.{AreMarks};
 
 use crate::before::before;
 use crate::marks::Mark;
-use crate::own::{is_committed, is_same_version, target_version, undoes};
+use crate::own::{is_committed, is_same_version, target_version};
 use apex_base::{Kind, Part, Record, SessionId, State, Target, session_of};
 
 // When they were activated
@@ -63,7 +62,7 @@ fn is_before_boot(boot: u32, r: Option<&Record>) -> bool
 pub(crate) fn any_undoes(sessions: &[Record]) -> bool
     ensures { result ≡ list_any (λ r. undoes r.kind) sessions.now }
 {
-    sessions.iter().any(|r| undoes(r.kind))
+    sessions.iter().any(|r| r.kind.undoes())
 }
 
 /// Whether each session of a rollback is what the rollback of its session makes, by the marks of those that succeeded.
@@ -119,13 +118,7 @@ fn is_verified(state: State) -> bool
 fn is_rollback_id(id: SessionId, x: SessionId) -> bool
     ensures { result ≡ is_same_id id (rollback_id x) }
 {
-    u64::from(id.0) == rollback_number(x)
-}
-
-fn rollback_number(x: SessionId) -> u64
-    ensures { result ≡ x.0 + 1073741824 }
-{
-    u64::from(x.0) + 1073741824
+    u64::from(id.0) == x.rollback_number()
 }
 
 fn are_rollback_ids(ids: &[SessionId], of: &[SessionId]) -> bool
@@ -200,7 +193,7 @@ pub(crate) fn are_undone(sessions: &[Record]) -> bool
 {
     for x in sessions {
         if is_committed(x.rollback)
-            && !undoes_it(x.id, session_of(sessions, rollback_number(x.id)))
+            && !undoes_it(x.id, session_of(sessions, x.id.rollback_number()))
         {
             return false;
         }

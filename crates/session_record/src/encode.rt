@@ -157,7 +157,8 @@ fn version_number(version: Option<Version>) -> u64
     }
 }
 
-fn push_target(target: &Target, into: &mut Vec<u8>) -> Result<(), AllocError>
+/// Adds a target. Fails only if memory runs out.
+pub fn push_target(target: &Target, into: &mut Vec<u8>) -> Result<(), AllocError>
     requires { HasPartNumber target.now }
     ensures { OnOk result (Pushed into.old.items into.new.items (target_text target.now)) }
 {

@@ -30,13 +30,15 @@ use Rattle.apex_base.proofs.TableLemmas.{some_value}
 use Rattle.apex_world.specs.Opened.{opened_boots, opened_sessions, opened_contents, values_in, names_in, activated_at}
 use Rattle.apex_world.specs.Opened.{kept_of, named_in}
 use Rattle.apex_world.specs.Rows.{has_snapshot}
-use Rattle.apex_world.proofs.WorldRows.{in_part}
-use Rattle.row_opening.specs.BadRows.{opened_rows}
-use Rattle.row_opening.specs.KeptRows.{IsKeptTag, counting}
-use Rattle.row_opening.proofs.EraValues.{opened_at}
-use Rattle.row_opening.proofs.OpenedRecords.{session_id}
+use Rattle.world_facts.proofs.facts.WorldRows.{in_part}
+use Rattle.row_check.specs.BadRows.{opened_rows}
+use Rattle.row_check.specs.KeptRows.{counting}
+use Rattle.row_key.specs.Kept.{IsKeptTag}
+use Rattle.row_check.proofs.EraValues.{opened_at}
+use Rattle.row_check.proofs.OpenedRecords.{session_id}
 use Rattle.session_check.specs.LawfulSessions.{AreLawfulSessions}
-use Rattle.world_check.specs.DataRows.{Row, front_of, value_weight, weighed, weights_in, boot_of, counted, same_boot}
+use Rattle.world_check.specs.DataRows.{Row, value_weight, weighed, weights_in, boot_of, counted, same_boot}
+use Rattle.row_key.specs.Data.{front_of}
 use Rattle.world_check.specs.Runs.{weight_if, key_weight, run_keys}
 use Rattle.world_check.proofs.Differing.{keys_differ, mapped_differ, filter_differ}
 use Rattle.world_check.proofs.EraRows.{tag_of, tag_if, boot_kept, data_is, era_is, era_none, one_session}

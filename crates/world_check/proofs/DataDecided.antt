@@ -27,9 +27,9 @@ use Rattle.apex_world.specs.Data.{part_weight, data_weight}
 use Rattle.apex_world.specs.Opened.{opened, opened_boots, opened_sessions, opened_contents, opened_eras}
 use Rattle.apex_world.specs.Rows.{has_snapshot}
 use Rattle.apex_world.specs.World.{Contents}
-use Rattle.row_opening.specs.BadRows.{opened_rows}
-use Rattle.row_opening.specs.KeptRows.{counting}
-use Rattle.row_opening.proofs.EraValues.{opened_at}
+use Rattle.row_check.specs.BadRows.{opened_rows}
+use Rattle.row_check.specs.KeptRows.{counting}
+use Rattle.row_check.proofs.EraValues.{opened_at}
 use Rattle.session_check.specs.LawfulSessions.{AreLawfulSessions}
 use Rattle.world_check.specs.DataRows.{weights_in, boots_in, counted, same_boot}
 use Rattle.world_check.specs.LawfulParts.{HasLawfulData}

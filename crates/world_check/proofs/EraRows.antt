@@ -13,7 +13,7 @@ use Rattle.apex_base.specs.declared.numbers.SessionId.{SessionId}
 use Rattle.apex_base.specs.declared.records.Kind.{Kind}
 use Rattle.apex_base.specs.declared.records.Kind.TheVariants.{Plain, WithRollback, RollbackOf}
 use Rattle.apex_base.specs.declared.records.Record.{Record}
-use Rattle.apex_base.specs.Commit.{rolls_back}
+use Rattle.apex_base.specs.Commit.{rolls_back, undoes}
 use Rattle.apex_base.specs.Keys.{DataOf, RowMap, id_text, key_text}
 use Rattle.apex_base.specs.Members.{In}
 use Rattle.apex_base.specs.Reading.{number_at, short_text}
@@ -25,17 +25,19 @@ use Rattle.apex_base.proofs.MemberLemmas.{in_filter}
 use Rattle.apex_base.proofs.SessionLemmas.{of_found, of_in}
 use Rattle.apex_base.proofs.SpellingLemmas.{four_again}
 use Rattle.apex_world.specs.Opened.{opened_boots, opened_sessions, opened_contents, activated_at}
-use Rattle.apex_world.specs.Rows.{has_snapshot, has_pre_restore, undoes}
-use Rattle.apex_world.proofs.WorldRows.{same_id}
-use Rattle.row_opening.specs.BadRows.{opened_rows}
-use Rattle.row_opening.specs.KeptRows.{IsKeptTag, kept_text, kept_row, kept_if, kept_by, kept_value, keeps, counting}
-use Rattle.row_opening.specs.KeptRows.{first_kept, era_value, is_boot}
-use Rattle.row_opening.proofs.EraValues.{opened_at, at_boot}
-use Rattle.row_opening.proofs.KeptKeys.{kept_there}
-use Rattle.row_opening.proofs.OpenedRecords.{session_id}
-use Rattle.row_opening.proofs.OpenedWorld.{opened_row}
+use Rattle.apex_world.specs.Rows.{has_snapshot, has_pre_restore}
+use Rattle.world_facts.proofs.facts.WorldRows.{same_id}
+use Rattle.row_check.specs.BadRows.{opened_rows}
+use Rattle.row_check.specs.KeptRows.{kept_row, kept_if, kept_by, kept_value, keeps, counting}
+use Rattle.row_key.specs.Kept.{IsKeptTag, kept_text}
+use Rattle.row_check.specs.KeptRows.{first_kept, era_value, is_boot}
+use Rattle.row_check.proofs.EraValues.{opened_at, at_boot}
+use Rattle.row_check.proofs.KeptKeys.{kept_there}
+use Rattle.row_check.proofs.OpenedRecords.{session_id}
+use Rattle.row_check.proofs.OpenedWorld.{opened_row}
 use Rattle.session_check.specs.LawfulSessions.{AreLawfulSessions}
-use Rattle.world_check.specs.DataRows.{front_of, boot_of, activation_at, activation_of}
+use Rattle.world_check.specs.DataRows.{boot_of, activation_at, activation_of}
+use Rattle.row_key.specs.Data.{front_of}
 use Rattle.world_check.proofs.FrontForms.{data_name, kept_name, IsKeptRow, IsFronted, fronted}
 
 -- Options

@@ -23,14 +23,14 @@ use Rattle.apex_base.specs.Text.{is_path, path_of}
 use Rattle.apex_base.proofs.Finding.{some_then, some_if}
 use Rattle.apex_base.proofs.RowMaps.{same_names, in_ends, tabulated}
 use Rattle.apex_world.specs.Opened as world
-use Rattle.package_store.specs.Placed.{path_in}
+use Rattle.row_key.specs.Files.{path_in}
 use Rattle.package_store.proofs.FilesRead.{HasPaths, Filed, files_in, file_found, begins, passes, has_room, takes}
 use Rattle.package_store.proofs.FilesRead as read
 use Rattle.package_store.proofs.Fronts.{at_least, front_le, between, path_there, key_of_path}
 use Rattle.package_store.proofs.RowsFrom.{Rows, Entry, by_items, range_is_from}
 use Rattle.row_map.specs.Rows.{shown}
 use Rattle.apex_world.specs.Decided.{is_module}
-use Rattle.apex_world.proofs.DecidedTables.{module_decides}
+use Rattle.world_facts.proofs.facts.DecidedTables.{module_decides}
 use Rattle.world_check.specs.FilesRead.{with_file, IsTooMuch}
 use Rattle.world_check.specs.RightModules.{if_module}
 

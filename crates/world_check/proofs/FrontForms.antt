@@ -10,10 +10,11 @@ use Rattle.apex_base.specs.Keys.{WatchOf, IsKey, key_text, RowMap, id_text}
 use Rattle.apex_base.specs.Tables.{value_of}
 use Rattle.apex_world.specs.Opened.{opened, opened_contents}
 use Rattle.apex_world.specs.Rows.{row_at}
-use Rattle.row_opening.specs.BadRows.{opened_rows}
-use Rattle.row_opening.specs.KeptRows.{IsKeptTag, kept_row}
-use Rattle.row_opening.proofs.KeptKeys.{snapshot_is, pre_restore_is}
-use Rattle.world_check.specs.DataRows.{front_of}
+use Rattle.row_check.specs.BadRows.{opened_rows}
+use Rattle.row_check.specs.KeptRows.{kept_row}
+use Rattle.row_key.specs.Kept.{IsKeptTag}
+use Rattle.row_check.proofs.KeptKeys.{snapshot_is, pre_restore_is}
+use Rattle.row_key.specs.Data.{front_of}
 use Rattle.world_check.proofs.KeyForms.{row_found}
 
 -- The fronts of a name's data, and of what a session keeps of it

@@ -21,7 +21,8 @@ use Rattle.apex_base.proofs.MemberLemmas.{in_map, in_map_back, in_each}
 use Rattle.apex_base.proofs.RowMaps.{below_in, sorted_entries, entry_get, in_entries}
 use Rattle.apex_base.proofs.SumLemmas.{Matched, sum_most}
 use Rattle.apex_world.specs.Data.{part_weight}
-use Rattle.world_check.specs.DataRows.{Row, front_of, value_weight, weighed, with_some, weights_in}
+use Rattle.world_check.specs.DataRows.{Row, value_weight, weighed, with_some, weights_in}
+use Rattle.row_key.specs.Data.{front_of}
 use Rattle.world_check.specs.Runs.{weight_if, key_weight}
 use Rattle.world_check.proofs.Differing.{entries_differ}
 use Rattle.world_check.proofs.RowRuns.{Item, AllFull, weighed_as}

@@ -12,9 +12,9 @@ use Rattle.apex_base.specs.Text.{is_name}
 use Rattle.apex_base.proofs.Finding.{some_if, some_of, some_then}
 use Rattle.apex_world.specs.Opened.{opened, opened_watches, value_in, end_of, end_in}
 use Rattle.apex_world.specs.Rows.{row_at}
-use Rattle.row_opening.specs.BadRows.{opened_rows}
-use Rattle.row_opening.proofs.OpenedValues.{watch_value}
-use Rattle.row_opening.proofs.OpenedWorld.{opened_found}
+use Rattle.row_check.specs.BadRows.{opened_rows}
+use Rattle.row_check.proofs.OpenedValues.{watch_value}
+use Rattle.row_check.proofs.OpenedWorld.{opened_found}
 
 -- Each row is that of a key
 

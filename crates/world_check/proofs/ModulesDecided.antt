@@ -21,9 +21,9 @@ use Rattle.apex_world.specs.Limits.{weight}
 use Rattle.apex_world.specs.Opened.{opened, opened_files, opened_sessions}
 use Rattle.apex_world.specs.Soundness.{checked}
 use Rattle.apex_world.specs.World.{World}
-use Rattle.apex_world.proofs.HeldModules.{this_module}
-use Rattle.apex_world.proofs.ModulesOpened.{got_in, mods, module_of, is_opened, mods_back, mods_there, content_of}
-use Rattle.apex_world.proofs.WorldRows.{submission_of}
+use Rattle.world_facts.proofs.facts.HeldModules.{this_module}
+use Rattle.world_facts.proofs.facts.ModulesOpened.{got_in, mods, module_of, is_opened, mods_back, mods_there, content_of}
+use Rattle.world_facts.proofs.facts.WorldRows.{submission_of}
 use Rattle.session_check.specs.LawfulSessions.{AreLawfulSessions}
 use Rattle.world_check.specs.LawfulParts.{HasLawfulModules}
 use Rattle.world_check.specs.RightModules.{less_sessions}

@@ -21,8 +21,8 @@ use Rattle.apex_world.specs.Decided.{is_module, says}
 use Rattle.apex_world.specs.Limits.{target_weight}
 use Rattle.apex_world.specs.Opened.{opened_files, opened_module}
 use Rattle.apex_world.specs.Soundness.{checked}
-use Rattle.apex_world.proofs.DecidedTables.{module_decides, says_decides}
-use Rattle.apex_world.proofs.ModulesOpened.{part_modules, module_of}
+use Rattle.world_facts.proofs.facts.DecidedTables.{module_decides, says_decides}
+use Rattle.world_facts.proofs.facts.ModulesOpened.{part_modules, module_of}
 use Rattle.world_check.specs.RightModules.{less, if_module, less_module, less_target, less_parts, less_sessions}
 
 some_is : {A : Type 0} (x y : A) → Some x ≡ Some y → x ≡ y

@@ -12,13 +12,13 @@ use Rattle.apex_base.specs.Keys.{RowMap}
 use Rattle.apex_base.specs.Members.{In}
 use Rattle.apex_world.specs.declared.world.Submission.{Submission}
 use Rattle.apex_world.specs.Opened.{opened_files, opened_module}
-use Rattle.apex_world.specs.Rows.{undoes}
+use Rattle.apex_base.specs.Commit.{undoes}
 use Rattle.apex_world.specs.Selection.{submitted_by}
-use Rattle.apex_world.proofs.ModulesOpened.{got_in, mods, part_modules, module_of, is_opened, mods_there, mod_found}
-use Rattle.apex_world.proofs.ModulesOpened.{modules_distinct}
-use Rattle.apex_world.proofs.OpenedSessions.{one_session}
-use Rattle.apex_world.proofs.PartOwners.{Owner}
-use Rattle.apex_world.proofs.RowWeightLemmas.{AreDistinct}
+use Rattle.world_facts.proofs.facts.ModulesOpened.{got_in, mods, part_modules, module_of, is_opened, mods_there, mod_found}
+use Rattle.world_facts.proofs.facts.ModulesOpened.{modules_distinct}
+use Rattle.world_facts.proofs.facts.OpenedSessions.{one_session}
+use Rattle.world_facts.proofs.facts.PartOwners.{Owner}
+use Rattle.world_facts.proofs.facts.RowWeightLemmas.{AreDistinct}
 use Rattle.session_check.specs.LawfulSessions.{AreLawfulSessions}
 use Rattle.world_check.proofs.Owners.{owned}
 

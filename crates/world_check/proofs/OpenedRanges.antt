@@ -23,9 +23,9 @@ use Rattle.apex_base.proofs.SessionLemmas.{of_in}
 use Rattle.apex_world.specs.Opened.{moments_at, boots_of, boots_or_none, opened_boots, opened_sessions, opened}
 use Rattle.apex_world.specs.Rows.{boots_row, boots_text}
 use Rattle.apex_world.specs.World.{boots}
-use Rattle.row_opening.specs.BadRows.{opened_rows}
-use Rattle.row_opening.proofs.OpenedRecords.{any_holds, end_holds, is_record_in, session_row, sessions_ascend}
-use Rattle.row_opening.proofs.OpenedWorld.{opened_row}
+use Rattle.row_check.specs.BadRows.{opened_rows}
+use Rattle.row_check.proofs.OpenedRecords.{any_holds, end_holds, is_record_in, session_row, sessions_ascend}
+use Rattle.row_check.proofs.OpenedWorld.{opened_row}
 use Rattle.session_check.specs.LawfulSessions.{AreLawfulSessions}
 use Rattle.apex_base.proofs.ByteLists.{AreBytes}
 use Rattle.session_record.proofs.Steps.{bind_holds, Took}

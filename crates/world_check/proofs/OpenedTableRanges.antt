@@ -23,7 +23,7 @@ use Rattle.apex_world.specs.Lawful.{IsTable}
 use Rattle.apex_world.specs.Opened.{name_in, names_in, value_in, values_in, opened_contents, activated_at, kept_of}
 use Rattle.apex_world.specs.Opened.{named_in, era_of, opened_eras, end_of, end_in, opened_ends, opened_watches}
 use Rattle.apex_world.specs.World.{Contents}
-use Rattle.apex_world.proofs.WorldRows.{in_part}
+use Rattle.world_facts.proofs.facts.WorldRows.{in_part}
 use Rattle.session_record.proofs.Took.{if_holds}
 
 -- Tables that are put together

@@ -16,11 +16,12 @@ use Rattle.apex_base.specs.Sessions.{session_of}
 use Rattle.apex_base.proofs.MemberLemmas.{in_each}
 use Rattle.apex_base.proofs.SessionLemmas.{of_in}
 use Rattle.apex_world.specs.Lawful.{part_at_place}
-use Rattle.apex_world.proofs.KeptLemmas.{kept_part}
-use Rattle.apex_world.proofs.ModulesOpened.{got_in}
-use Rattle.apex_world.proofs.PartOwners.{Owner, owned_in}
-use Rattle.apex_world.proofs.WorldRows.{same_id}
-use Rattle.package_store.specs.Settled.{HasPart, HaveParts}
+use Rattle.world_facts.proofs.facts.KeptLemmas.{kept_part}
+use Rattle.world_facts.proofs.facts.ModulesOpened.{got_in}
+use Rattle.world_facts.proofs.facts.PartOwners.{Owner, owned_in}
+use Rattle.world_facts.proofs.facts.WorldRows.{same_id}
+use Rattle.session_record.specs.Room.{HasPartNumber}
+use Rattle.package_store.specs.Settled.{HaveParts}
 use Rattle.session_check.specs.LawfulSessions.{AreLawfulSessions}
 
 module _ (n : ℕ) (ss : List Record) (law : AreLawfulSessions n ss) where
@@ -54,7 +55,7 @@ module _ (n : ℕ) (ss : List Record) (law : AreLawfulSessions n ss) where
       ap (λ (s : Option Record). option_and_then (λ (r : Record). slice_get r.parts part) s) found ∙ o.there
       ∙ ap (λ (p : Part). Some p) is
 
-  low_part : (r : Record) (p : Part) (t : Target) → In r ss → In p r.parts → p.target ≡ t → HasPart t
+  low_part : (r : Record) (p : Part) (t : Target) → In r ss → In p r.parts → p.target ≡ t → HasPartNumber t
   low_part r p targets.Preinstalled h i e = tt
   low_part r p (targets.Module session part version) h i e =
       let own = owned r p h i session part version e in

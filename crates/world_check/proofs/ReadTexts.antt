@@ -11,7 +11,7 @@ use Rattle.apex_base.specs.Spelling.{name_at, print_at, moment_at, state_at, kin
 use Rattle.apex_base.specs.Spelling.{case_of_number, superseded_at, version_of_number, target_at, part_at, parts_at}
 use Rattle.apex_base.specs.Spelling.{children_of, record_of}
 use Rattle.apex_base.specs.Text.{is_name, is_print, name_of, print_of}
-use Rattle.row_opening.proofs.OpenedRecords.{any_holds, end_holds}
+use Rattle.row_check.proofs.OpenedRecords.{any_holds, end_holds}
 use Rattle.session_record.proofs.Steps.{bind_holds}
 use Rattle.session_record.proofs.Took.{if_holds, taken_holds, chosen_holds}
 use Rattle.world_check.proofs.FitTexts.{NamesPart, HasName, HasTexts}

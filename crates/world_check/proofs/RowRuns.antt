@@ -14,8 +14,9 @@ use Rattle.std.proofs.lemmas.Slice.Eq.{bytes_eq-Decides}
 use Rattle.apex_base.specs.Members.{In}
 use Rattle.apex_base.proofs.Finding.{some_of}
 use Rattle.package_store.proofs.Fronts.{front_le, between as begun}
-use Rattle.row_opening.proofs.KeyOrder.{below_less}
-use Rattle.world_check.specs.DataRows.{Row, front_of, value_weight, weighed, with_some, weights_in}
+use Rattle.row_check.proofs.KeyOrder.{below_less}
+use Rattle.world_check.specs.DataRows.{Row, value_weight, weighed, with_some, weights_in}
+use Rattle.row_key.specs.Data.{front_of}
 use Rattle.world_check.proofs.FrontForms.{IsFull, one_front}
 use Rattle.world_check.proofs.RunSums.{GoesOn, StandTogether}
 

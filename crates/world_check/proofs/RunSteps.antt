@@ -6,7 +6,8 @@ use Rattle.std.specs.Str.{bytes_eq}
 use Rattle.std.proofs.lemmas.List.{append_assoc}
 use Rattle.std.proofs.lemmas.Slice.Eq.{bytes_eq-Decides}
 use Rattle.apex_base.specs.declared.records.Record.{Record}
-use Rattle.world_check.specs.DataRows.{Row, front_of, value_weight, with_some, weights_in, boot_of, Adds}
+use Rattle.world_check.specs.DataRows.{Row, value_weight, with_some, weights_in, boot_of, Adds}
+use Rattle.row_key.specs.Data.{front_of}
 use Rattle.world_check.specs.Runs.{run_keys}
 
 module _ (ss : List Record) (last key : List ℕ) where

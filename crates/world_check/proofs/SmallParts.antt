@@ -10,16 +10,15 @@ use Rattle.apex_base.specs.declared.records.Kind.{Kind}
 use Rattle.apex_base.specs.declared.records.Kind.TheVariants.{Plain, WithRollback, RollbackOf}
 use Rattle.apex_base.specs.declared.records.Part.{Part}
 use Rattle.apex_base.specs.declared.records.Record.{Record}
-use Rattle.apex_base.specs.Commit.{part_before}
+use Rattle.apex_base.specs.Commit.{part_before, undoes}
 use Rattle.apex_base.specs.Held.{before, is_success}
 use Rattle.apex_base.specs.Members.{In}
 use Rattle.apex_base.specs.Sessions.{session_of}
 use Rattle.apex_base.proofs.MemberLemmas.{in_map_back, each_in, in_each}
 use Rattle.apex_base.proofs.SessionLemmas.{of_found}
 use Rattle.apex_world.specs.Lawful.{AreOwn}
-use Rattle.apex_world.specs.Rows.{undoes}
-use Rattle.apex_world.proofs.LatestLemmas.{named_by, latest_is}
-use Rattle.apex_world.proofs.StateFacts.{success_activated}
+use Rattle.world_facts.proofs.facts.LatestLemmas.{named_by, latest_is}
+use Rattle.world_facts.proofs.facts.StateFacts.{success_activated}
 use Rattle.session_check.specs.LawfulSessions.{AreLawfulSessions}
 use Rattle.session_record.specs.Room.{HasPartNumber, HasRoom}
 

@@ -24,9 +24,9 @@ use Rattle.apex_base.proofs.RowMaps.{below_in, sorted_entries, entry_get, in_ent
 use Rattle.apex_base.proofs.SumLemmas.{length_most}
 use Rattle.apex_world.specs.Bounds.{table_len}
 use Rattle.apex_world.specs.Opened.{opened, opened_watches, end_of}
-use Rattle.apex_world.proofs.RowWeightLemmas.{key_first, key_last}
-use Rattle.apex_world.proofs.WorldRows.{in_part}
-use Rattle.row_opening.specs.BadRows.{opened_rows}
+use Rattle.world_facts.proofs.facts.RowWeightLemmas.{key_first, key_last}
+use Rattle.world_facts.proofs.facts.WorldRows.{in_part}
+use Rattle.row_check.specs.BadRows.{opened_rows}
 use Rattle.world_check.specs.LawfulParts.{HasLawfulWatches}
 use Rattle.world_check.specs.WatchRows.{is_in_time, left_after_all}
 use Rattle.world_check.proofs.Differing.{Differ, append_differ, keys_differ, mapped_differ}

@@ -6,7 +6,7 @@ use Rattle.apex_base.specs.Keys.{RowMap}
 use Rattle.apex_world.specs.Lawful.{Lawful, HaveActivations}
 use Rattle.apex_world.specs.Opened.{activated_at, era_of, opened, opened_boots, opened_sessions}
 use Rattle.apex_world.specs.World.{World, boots}
-use Rattle.row_opening.specs.BadRows.{opened_rows}
+use Rattle.row_check.specs.BadRows.{opened_rows}
 use Rattle.session_check.specs.LawfulSessions.{AreLawfulSessions}
 use Rattle.world_check.specs.LawfulParts.{HasLawfulCounts, HasLawfulData, HasLawfulModules, HasLawfulWatches}
 use Rattle.world_check.proofs.OpenedRanges.{opened_low, opened_moment, opened_record}

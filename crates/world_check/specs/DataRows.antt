@@ -1,6 +1,6 @@
 -- Rows of data, and of what sessions keep of it, by the front of their keys: docs/rows.md, tags 6, 7 and 8. A front is a
 -- key up to the end of its name, so that the rows of one name stand under one front.
-use Rattle.std.specs.Prelude.{◌≡◌, ℕ, ◌+◌, ◌++◌, ◌==◌, ◌||◌, nat_le, Bool, List, [], ◌∷◌, length, map, take, drop, slice_get, Option}
+use Rattle.std.specs.Prelude.{◌≡◌, ℕ, ◌+◌, ◌++◌, ◌==◌, nat_le, Bool, List, [], ◌∷◌, length, map, drop, Option}
 use Rattle.std.specs.Prelude.{Some, None, if◌then◌else◌}
 use Rattle.std.specs.Int.{w32}
 use Rattle.std.specs.Option.{option_map}
@@ -10,22 +10,8 @@ use Rattle.apex_base.specs.Keys.{id_of}
 use Rattle.apex_base.specs.Reading.{number_at}
 use Rattle.apex_base.specs.RowSums.{entry_weight}
 use Rattle.apex_base.specs.Sessions.{session_of}
+use Rattle.row_key.specs.Data.{front_of}
 use Rattle.world_check.specs.Runs.{run_weight, run_keys}
-
--- Fronts
-
--- a key up to the end of the name whose length stands at this place
-abbrev pub up_to_name : ℕ → List ℕ → Option (List ℕ)
-up_to_name place key = option_map (λ len. take (place + 1 + len) key) (slice_get key place)
-
--- the front of a key, if it is of data or of what a session keeps
-abbrev pub front_by : ℕ → List ℕ → Option (List ℕ)
-front_by tag key =
-    if tag == 6 then up_to_name 1 key else (if (tag == 7) || (tag == 8) then up_to_name 5 key else None)
-
-abbrev pub front_of : List ℕ → Option (List ℕ)
-front_of [] = None
-front_of (tag ∷ rest) = front_by tag (tag ∷ rest)
 
 -- Values by their fronts
 

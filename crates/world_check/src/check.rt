@@ -2,15 +2,15 @@
 ghost use Rattle.std.specs.Prelude.{◌≡◌, Decides, IfOk};
 ghost use Rattle.apex_world.specs.Lawful.{Lawful};
 ghost use Rattle.apex_world.specs.Opened.{opened, opened_boots, opened_sessions};
-ghost use Rattle.row_opening.specs.BadRows.{opened_rows};
+ghost use Rattle.row_check.specs.BadRows.{opened_rows};
 
 use crate::counts::are_lawful_counts;
 use crate::data::is_lawful_data;
 use crate::modules::are_lawful_modules;
 use crate::watches::are_lawful_watches;
 use apex_base::Scale;
+use row_check::OpenedRows;
 use row_map::Rows;
-use row_opening::OpenedRows;
 use session_check::are_lawful;
 use std::alloc::{AllocError, Global};
 

@@ -6,8 +6,8 @@ ghost use Rattle.apex_world.specs.World.{World};
 ghost use Rattle.world_check.specs.Counted.{AreFew, amount, most, names_if};
 ghost use Rattle.world_check.specs.LawfulParts.{HasLawfulCounts};
 
-use apex_base::{Kind, Record, RollbackState, Scale, State};
-use row_opening::Boots;
+use apex_base::{Kind, Record, RollbackState, Scale};
+use row_check::Boots;
 
 /// What is counted of sessions: their units, and the names of those that can be undone, that can be rolled back, and
 /// that are to take others back at the next boot.
@@ -106,5 +106,5 @@ fn names_if(counts: bool, r: &Record) -> usize
 fn is_ready_rollback(r: &Record) -> bool
     ensures { result ≡ is_ready_rollback r.now }
 {
-    matches!(r.kind, Kind::RollbackOf(_)) && matches!(r.state, State::Staged)
+    r.kind.undoes() && r.state.is_staged()
 }

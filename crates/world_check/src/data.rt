@@ -6,14 +6,15 @@ ghost use Rattle.std.specs.Option.{option_map};
 ghost use Rattle.std.specs.Str.{bytes_eq};
 ghost use Rattle.apex_base.specs.Sessions.{Ascend};
 ghost use Rattle.apex_world.specs.Opened.{opened, opened_boots, opened_sessions};
-ghost use Rattle.row_opening.specs.BadRows.{opened_rows};
+ghost use Rattle.row_check.specs.BadRows.{opened_rows};
 ghost use Rattle.session_check.specs.LawfulSessions.{AreLawfulSessions};
 ghost use Rattle.world_check.specs.DataRows.{weights_in, weighed, next_run, boots_in, counted, same_boot, Adds};
 ghost use Rattle.world_check.specs.LawfulParts.{HasLawfulData};
 ghost use Rattle.world_check.specs.Runs.{are_light, key_weight, run_weight};
 
-use crate::fronts::{boot_of, front_of};
+use crate::fronts::boot_of;
 use apex_base::{Record, Scale};
+use row_key::front_of;
 use row_map::Rows;
 use std::alloc::{AllocError, Global};
 

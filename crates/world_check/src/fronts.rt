@@ -1,45 +1,12 @@
-//! Fronts of keys: a key of data, or of what a session keeps of it, up to the end of its name.
-ghost use Rattle.std.specs.Prelude.{◌≡◌, ◌+◌, ◌<◌, ◌^◌};
-ghost use Rattle.std.specs.Option.{option_map};
+//! The boots of fronts, which are keys of data or of what sessions keep up to the end of their names.
+ghost use Rattle.std.specs.Prelude.{◌≡◌};
 ghost use Rattle.std.specs.Int.{w32};
 ghost use Rattle.apex_base.specs.Reading.{number_at};
 ghost use Rattle.apex_base.specs.Sessions.{Ascend};
-ghost use Rattle.world_check.specs.DataRows.{front_by, front_of, up_to_name, activation_at, boot_of};
+ghost use Rattle.world_check.specs.DataRows.{activation_at, boot_of};
 
 use apex_base::{Record, session_of, u32_at};
-
-/// The tag of the rows of data. Those of snapshots and of values before a rollback are the next two.
-const DATA: u8 = 6;
-
-/// The front of a key, if it is of data or of what a session keeps.
-pub(crate) fn front_of(key: &[u8]) -> Option<&[u8]>
-    ensures { option_map (λ front. front.now) result ≡ front_of key.now }
-{
-    match key {
-        [] => None,
-        [tag, ..] => front_by(*tag, key),
-    }
-}
-
-fn front_by(tag: u8, key: &[u8]) -> Option<&[u8]>
-    ensures { option_map (λ front. front.now) result ≡ front_by tag key.now }
-{
-    match tag {
-        6 => up_to_name(1, key),
-        7 | 8 => up_to_name(5, key),
-        _ => None,
-    }
-}
-
-/// A key up to the end of the name whose length stands at this place.
-fn up_to_name(place: usize, key: &[u8]) -> Option<&[u8]>
-    requires { place < 2 ^ 8 }
-    ensures { option_map (λ front. front.now) result ≡ up_to_name place key.now }
-{
-    let len = key.get(place)?;
-    let end = place + 1 + usize::from(*len);
-    Some(if end < key.len() { &key[..end] } else { key })
-}
+use row_key::DATA;
 
 /// The boot just before which a name had its values: the one that activated the session that keeps them, or 0 for what
 /// the name has now.

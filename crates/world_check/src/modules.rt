@@ -9,7 +9,8 @@ ghost use Rattle.apex_world.specs.Decided.{says};
 ghost use Rattle.apex_world.specs.Opened.{opened, opened_boots, opened_files, opened_sessions};
 ghost use Rattle.apex_world.specs.Soundness.{checked};
 ghost use Rattle.package_store.specs.Keeping.{has_part};
-ghost use Rattle.package_store.specs.Settled.{HasPart, HaveParts};
+ghost use Rattle.session_record.specs.Room.{HasPartNumber};
+ghost use Rattle.package_store.specs.Settled.{HaveParts};
 ghost use Rattle.session_check.specs.LawfulSessions.{AreLawfulSessions};
 ghost use Rattle.world_check.specs.FilesRead.{with_file, IsTooMuch};
 ghost use Rattle.world_check.specs.LawfulParts.{HasLawfulModules};
@@ -20,7 +21,8 @@ use apex_base::{
 };
 use apex_manifest::ManifestWhy;
 use apex_world::check_module;
-use package_store::{KeptParts, file_front, held_by_name, path_in};
+use package_store::{KeptParts, held_by_name};
+use row_key::{file_front, path_in};
 use row_map::Rows;
 use std::alloc::{AllocError, Global};
 
@@ -82,7 +84,7 @@ fn take_parts(
     r: &Record,
     left: u64,
 ) -> Result<Option<u64>, AllocError>
-    requires { AllByRecursion (λ p. HasPart p.target) r.now.parts }
+    requires { AllByRecursion (λ p. HasPartNumber p.target) r.now.parts }
     ensures { IfOk result (λ rest. rest ≡ less_parts rows.now (has_part kept.now) r.now.id left r.now.parts) }
 {
     let mut rest = left;
@@ -104,7 +106,7 @@ fn take_part(
     p: &Part,
     left: u64,
 ) -> Result<Option<u64>, AllocError>
-    requires { HasPart p.now.target }
+    requires { HasPartNumber p.now.target }
     ensures { IfOk result
         (λ rest. rest ≡ less_target rows.now (has_part kept.now) id p.now.name left p.now.target) }
 {

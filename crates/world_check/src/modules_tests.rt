@@ -3,8 +3,8 @@ ghost use Rattle.std.specs.Prelude.{◌≡◌};
 
 use crate::modules::are_lawful_modules;
 use apex_base::{Bytes, Scale};
+use row_check::{opened_boots, opened_sessions};
 use row_map::Rows;
-use row_opening::{opened_boots, opened_sessions};
 use session_check::are_lawful;
 use std::alloc::{AllocError, Global};
 use std::test::*;

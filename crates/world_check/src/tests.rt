@@ -1,8 +1,8 @@
 //! What no clause says: with ample memory there is an answer.
 use crate::is_lawful;
 use apex_base::{Bytes, Scale};
+use row_check::open_rows;
 use row_map::Rows;
-use row_opening::open_rows;
 use std::test::*;
 
 /// One boot, at moment 0.

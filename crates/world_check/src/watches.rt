@@ -4,16 +4,13 @@ ghost use Rattle.std.specs.Option.{is_some};
 ghost use Rattle.std.specs.FinMap as fin;
 ghost use Rattle.apex_base.specs.Numbers.{scale_modules};
 ghost use Rattle.apex_world.specs.Opened.{opened, end_of};
-ghost use Rattle.row_opening.specs.BadRows.{opened_rows};
+ghost use Rattle.row_check.specs.BadRows.{opened_rows};
 ghost use Rattle.world_check.specs.LawfulParts.{HasLawfulWatches};
-ghost use Rattle.world_check.specs.WatchRows.{is_in_time, one_less, left_after, left_after_all};
+ghost use Rattle.world_check.specs.WatchRows.{is_in_time, left_after, left_after_all};
 
 use apex_base::{Scale, u64_at};
-use package_store::has_tag;
+use row_key::{WATCH, has_tag};
 use row_map::Rows;
-
-/// The tag of the rows of watches.
-const WATCH: u8 = 9;
 
 /// A moment and a duration are at most this together.
 const LAST_END: u64 = 18014398509481982;

@@ -1,5 +1,5 @@
 use Rattle.std.proofs.Common.{refl}
-use Rattle.apex_core.specs.Prepared.{call_of}
+use Rattle.call_judge.specs.Prepared.{call_of}
 use Rattle.apex_core.proofs.Performed.{stands_quiet}
 use Rattle.apex_core.proofs.manager.perform.Goals as goal
 

@@ -6,7 +6,7 @@ use Rattle.std.specs.List.{AllByRecursion}
 use Rattle.std.specs.Ordering.{nat_cmp}
 use Rattle.package_store.specs.Latest.{Best}
 use Rattle.package_store.specs.Named.{Note, note_active}
-use Rattle.package_store.specs.Settled.{HasPart}
+use Rattle.session_record.specs.Room.{HasPartNumber}
 use Rattle.package_store.specs.Spelled.{ChangeMap}
 use Rattle.package_store.proofs.HeldNames.{have_parts}
 use Rattle.package_store.proofs.naming.active_changes.Goals as goal
@@ -20,6 +20,6 @@ loop-name-init c =
     λ key. ap (λ (m : ChangeMap). fin.get m key) c.new-changes.ensures ∙ get-empty (slice_cmp nat_cmp) key in (
       λ key. ap (noting key (fin.get c.new-changes.result key)) gives.0
           ∙ ap (λ (n : Note). noting key n c.args.held.now.entries) (empty key),
-      subst (AllByRecursion (λ (e : List ℕ × Best). HasPart e.1.1)) (sym gives.0)
+      subst (AllByRecursion (λ (e : List ℕ × Best). HasPartNumber e.1.1)) (sym gives.0)
           (have_parts c.args.held.now gives.5 c.requires),
     )

@@ -4,7 +4,7 @@ use Rattle.std.specs.Option.{is_some}
 use Rattle.apex_base.specs.declared.records.Target.{Target}
 use Rattle.apex_base.specs.Held.{before}
 use Rattle.apex_base.specs.Spelling.{target_text}
-use Rattle.package_store.specs.Settled.{HasPart}
+use Rattle.session_record.specs.Room.{HasPartNumber}
 use Rattle.package_store.proofs.Parts.{before_part}
 use Rattle.package_store.proofs.RowNotes.{on_ok, noted, none_if, first_noted}
 use Rattle.package_store.proofs.naming.add_backup.Goals as goal
@@ -12,7 +12,7 @@ use Rattle.package_store.proofs.naming.add_backup.Goals as goal
 pub target_row-requires : goal.target_row-requires
 target_row-requires c =
     let records = c.requires.0 in
-    subst HasPart (sym (c.before-2.ensures records c.requires.2))
+    subst HasPartNumber (sym (c.before-2.ensures records c.requires.2))
     (before_part records c.args.r.now c.args.name.now c.requires.1)
 
 pub returns : goal.returns

@@ -5,7 +5,7 @@ use Rattle.apex_base.specs.declared.records.Record.{Record}
 use Rattle.apex_base.specs.Held.{is_available, target_of}
 use Rattle.package_store.specs.Earlier.{AreEarlier, looks_back}
 use Rattle.package_store.specs.Latest.{Best}
-use Rattle.package_store.specs.Settled.{HasPart}
+use Rattle.session_record.specs.Room.{HasPartNumber}
 use Rattle.package_store.specs.Named.{note_held, if_undoable}
 use Rattle.package_store.proofs.HeldNames.{Lists, lists}
 use Rattle.package_store.proofs.NameNotes.{all_noted}
@@ -14,7 +14,7 @@ use Rattle.package_store.proofs.naming.name_changes.Goals as goal
 
 pub active_changes-requires : goal.active_changes-requires
 active_changes-requires c = λ name.
-    subst (λ (best : Option Best). HasPart (target_of best)) (sym (c.requires.held name))
+    subst (λ (best : Option Best). HasPartNumber (target_of best)) (sym (c.requires.held name))
     (held_part c.args.records.now name c.requires.parts)
 
 pub add_backups-requires : goal.add_backups-requires

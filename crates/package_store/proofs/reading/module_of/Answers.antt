@@ -1,7 +1,7 @@
 use Rattle.std.proofs.Common.{◌≡◌, [], ◌∷◌, None, Some, ap, sym, subst, ◌∙◌, refl}
 use Rattle.apex_base.specs.RowSums.{module_at}
 use Rattle.row_map.specs.Rows.{rows_of, shown}
-use Rattle.package_store.specs.Placed.{path_in}
+use Rattle.row_key.specs.Files.{path_in}
 use Rattle.package_store.proofs.Filed.{filed_paths, starts}
 use Rattle.package_store.proofs.FilesRead.{Filed, passes, takes, is_named, has_room, ends}
 use Rattle.package_store.proofs.reading.module_of.Goals.{In-Some, In-Some-path_in}

@@ -1,6 +1,6 @@
 use Rattle.apex_base.specs.RowSums.{module_at}
 use Rattle.row_map.specs.Rows.{rows_of, shown}
-use Rattle.package_store.specs.Placed.{path_in}
+use Rattle.row_key.specs.Files.{path_in}
 use Rattle.package_store.proofs.FilesRead.{Filed}
 use Rattle.package_store.proofs.reading.module_of.Given as goal
 

@@ -3,7 +3,7 @@ use Rattle.std.proofs.lemmas.Result.{IfOk-weaker}
 use Rattle.apex_base.specs.Sessions.{Ascend}
 use Rattle.apex_world.specs.Lawful.{Lawful}
 use Rattle.apex_world.specs.Opened.{opened, opened_boots, opened_sessions}
-use Rattle.row_opening.proofs.OpenedRecords.{sessions_ascend}
+use Rattle.row_check.proofs.OpenedRecords.{sessions_ascend}
 use Rattle.session_check.specs.LawfulSessions.{AreLawfulSessions}
 use Rattle.world_check.specs.LawfulParts.{HasLawfulModules}
 use Rattle.world_check.proofs.Refusing.{refused}

@@ -1,5 +1,5 @@
 use Rattle.apex_world.specs.Opened.{opened_files}
-use Rattle.package_store.specs.Placed.{path_in}
+use Rattle.row_key.specs.Files.{path_in}
 use Rattle.row_map.specs.Rows.{shown}
 use Rattle.std.proofs.Common.{◌≡◌, ◌∷◌, ℕ, List, None, Some, ap, sym, subst, ◌∙◌}
 use Rattle.world_check.proofs.FilesWalked.{FilesLeft, starts, reads, stops, ends, too_much, module_read, no_module}

@@ -1,6 +1,6 @@
 use Rattle.std.proofs.Common.{sym, subst, ◌∙◌}
 use Rattle.apex_base.specs.Sessions.{Ascend}
-use Rattle.row_opening.proofs.OpenedRecords.{sessions_ascend}
+use Rattle.row_check.proofs.OpenedRecords.{sessions_ascend}
 use Rattle.world_check.proofs.modules_tests.judged.Goals as goal
 
 pub are_lawful-requires : goal.are_lawful-requires

@@ -1,5 +1,5 @@
 use Rattle.apex_world.specs.Step.{step}
-use Rattle.apex_core.specs.Prepared.{call_of}
+use Rattle.call_judge.specs.Prepared.{call_of}
 use Rattle.apex_core.proofs.Performed.{by_answer}
 use Rattle.apex_core.proofs.manager.Core.act.Goals as goal
 

@@ -3,10 +3,11 @@ use Rattle.apex_base.specs.declared.why.Why.TheVariants.{NoMemory}
 use Rattle.apex_world.specs.Boot.{boot_world}
 use Rattle.apex_world.specs.Limits.{units_of}
 use Rattle.apex_world.specs.Opened.{opened}
-use Rattle.apex_core.specs.Core.{Kept, StandsFor}
-use Rattle.apex_core.specs.Refused.{AreRefused}
-use Rattle.apex_core.proofs.Bootable.{if_error, not_refused, order_of}
-use Rattle.apex_core.specs.Unfinished.{AreUnfinished}
+use Rattle.apex_core.specs.Core.{Kept}
+use Rattle.call_judge.specs.Stands.{StandsFor}
+use Rattle.boot_recover.specs.Refused.{AreRefused}
+use Rattle.boot_recover.proofs.Bootable.{if_error, not_refused, order_of}
+use Rattle.call_judge.specs.Unfinished.{AreUnfinished}
 use Rattle.apex_core.proofs.BootTables.{few_units, light_rows, stands_booted}
 use Rattle.apex_core.proofs.manager.Core.boot.Goals as goal
 

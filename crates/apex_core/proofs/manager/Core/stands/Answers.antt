@@ -1,6 +1,7 @@
 use Rattle.std.proofs.Common.{subst}
 use Rattle.apex_world.specs.World.{World}
-use Rattle.apex_core.specs.Core.{StandsFor, Kept}
+use Rattle.apex_core.specs.Core.{Kept}
+use Rattle.call_judge.specs.Stands.{StandsFor}
 use Rattle.apex_core.proofs.manager.Core.stands.Goals as goal
 
 pub returns : goal.returns

@@ -1,7 +1,0 @@
-use Rattle.std.proofs.Common.{◌≡◌, take}
-use Rattle.apex_world.specs.Limits.{units_of}
-use Rattle.apex_core.proofs.booting.units_of.Given as goal
-
--- the units of the sessions so far
-abbrev pub invariant-loop-r : goal.invariant-loop-r
-invariant-loop-r l = l.units ≡ units_of (take l.r-index l.sessions)

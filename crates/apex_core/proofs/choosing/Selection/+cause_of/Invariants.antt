@@ -1,5 +1,0 @@
-use Rattle.std.proofs.Common.{length}
-use Rattle.apex_core.proofs.choosing.Selection.+cause_of.Given as goal
-
-abbrev pub decreases-cause_of : goal.decreases-cause_of
-decreases-cause_of g l = length l.parts.now

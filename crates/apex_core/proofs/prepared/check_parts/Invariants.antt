@@ -1,6 +1,0 @@
-use Rattle.std.proofs.Common.{◌≡◌, ◌++◌}
-use Rattle.apex_core.proofs.prepared.check_parts.Given as goal
-
--- what is checked, and then what is left
-abbrev pub invariant-loop-content : goal.invariant-loop-content
-invariant-loop-content l = l.checked.items ++ l.content-iterator.rest.items ≡ l.fn.parts

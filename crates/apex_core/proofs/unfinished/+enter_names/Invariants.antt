@@ -1,5 +1,0 @@
-use Rattle.std.proofs.Common.{length}
-use Rattle.apex_core.proofs.unfinished.+enter_names.Given as goal
-
-abbrev pub decreases-enter_names : goal.decreases-enter_names
-decreases-enter_names l = length l.parts.now

@@ -1,5 +1,0 @@
-use Rattle.std.proofs.Common.{length}
-use Rattle.apex_core.proofs.unfinished.+make_room_under.Given as goal
-
-abbrev pub decreases-make_room_under : goal.decreases-make_room_under
-decreases-make_room_under l = length l.parts.now

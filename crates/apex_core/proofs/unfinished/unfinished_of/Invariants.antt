@@ -1,7 +1,0 @@
-use Rattle.std.proofs.Common.{take}
-use Rattle.apex_core.specs.Unfinished.{AreUnfinished}
-use Rattle.apex_core.proofs.unfinished.unfinished_of.Given as goal
-
--- those of the sessions so far
-abbrev pub invariant-loop-r : goal.invariant-loop-r
-invariant-loop-r l = AreUnfinished l.by_name (take l.r-index l.sessions)

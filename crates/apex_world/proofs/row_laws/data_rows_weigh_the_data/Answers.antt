@@ -1,5 +1,0 @@
-use Rattle.apex_world.proofs.DataWeightLemmas.{data_rows_weigh}
-use Rattle.apex_world.proofs.row_laws.data_rows_weigh_the_data.Goals as goal
-
-pub returns : goal.returns
-returns c = λ w law name. data_rows_weigh name w law

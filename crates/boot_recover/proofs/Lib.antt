@@ -1,0 +1,10 @@
+pub mod BatchOrder
+pub mod BootBatches
+pub mod BootJudged
+pub mod Bootable
+pub mod InPlace
+pub mod KeyModules
+pub mod PlainRows
+pub mod SettledKeys
+pub mod TagRows
+pub mod TurnedSessions

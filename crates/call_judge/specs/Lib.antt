@@ -1,0 +1,9 @@
+pub mod Ending
+pub mod Judged
+pub mod Moving
+pub mod Prepared
+pub mod Stands
+pub mod Submitting
+pub mod Taken
+pub mod Unfinished
+pub mod Weights

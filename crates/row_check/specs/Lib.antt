@@ -1,0 +1,10 @@
+pub mod BadRows
+pub mod EraSteps
+pub mod FileKeys
+pub mod KeptRows
+pub mod RightKept
+pub mod RightRows
+pub mod RowFronts
+pub mod RowSessions
+pub mod SettledTags
+pub mod WrongTags

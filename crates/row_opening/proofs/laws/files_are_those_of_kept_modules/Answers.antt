@@ -1,5 +1,0 @@
-use Rattle.row_opening.proofs.FileRows.{file_row_is}
-use Rattle.row_opening.proofs.laws.files_are_those_of_kept_modules.Goals as goal
-
-pub returns : goal.returns
-returns c = file_row_is

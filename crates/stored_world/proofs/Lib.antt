@@ -1,0 +1,3 @@
+pub mod BatchRows
+pub mod Batches
+pub mod Room

@@ -1,0 +1,3 @@
+pub mod Fives
+pub mod Names
+pub mod Slices

@@ -1,0 +1,23 @@
+-- What is true of each world by itself: sessions, what names hold, what is kept, latest, rows, and what the checks cite.
+pub mod DecidedIds
+pub mod DecidedPeers
+pub mod DecidedRollbacks
+pub mod DecidedTables
+pub mod DecidedTests
+pub mod EmptyLemmas
+pub mod HeldModules
+pub mod KeptLemmas
+pub mod KeptLess
+pub mod LatestLemmas
+pub mod LeadsLemmas
+pub mod ModulesOpened
+pub mod NewIds
+pub mod OpenedSessions
+pub mod OpenedTables
+pub mod OwnTargets
+pub mod PartOwners
+pub mod PlacedSessions
+pub mod PlainLemmas
+pub mod RowWeightLemmas
+pub mod StateFacts
+pub mod WorldRows

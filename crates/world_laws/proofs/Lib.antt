@@ -1,0 +1,4 @@
+pub mod alike
+pub mod meaning
+pub mod rows
+pub mod runs

@@ -1,0 +1,19 @@
+-- What boots and calls mean: refusals, sessions that stay, wholeness, and the data of rollbacks.
+pub mod BootFollows
+pub mod BootRollbacks
+pub mod BootSessions
+pub mod BootStays
+pub mod BootTurns
+pub mod CallStays
+pub mod ChosenLemmas
+pub mod CommitStays
+pub mod HeldLemmas
+pub mod Lasting
+pub mod RefusedLemmas
+pub mod Restored
+pub mod RollbackDataLemmas
+pub mod RollbackIds
+pub mod RollbackStates
+pub mod WholeBoot
+pub mod WholeCalls
+pub mod WholenessLemmas

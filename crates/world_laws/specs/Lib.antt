@@ -1,0 +1,14 @@
+pub mod Alike
+pub mod BootByRows
+pub mod DataOrigins
+pub mod Histories
+pub mod Invariance
+pub mod KeptByName
+pub mod Likeness
+pub mod RollbackData
+pub mod RowLaws
+pub mod RowsAfter
+pub mod RowsBooted
+pub mod RowsMoved
+pub mod StoredAlike
+pub mod Wholeness
