@@ -9,6 +9,8 @@ mod opening;
 mod plays;
 mod shared;
 mod tally;
+#[cfg(test)]
+mod tests;
 mod turn;
 
 pub use lanes::{Lane, race};
